@@ -1,0 +1,32 @@
+//! What computes Sycon's permutation.
+
+ghost use Prim.Native.Nat.{ℕ};
+ghost use Rattle.sycon.specs.Permutation.{State, permuted};
+ghost use lib.ListN.{getD, set};
+ghost use mathlib.Core.List.{List};
+ghost use mathlib.Core.Path.{_≡_};
+
+/// An engine means a state of 40 bytes, and can permute it.
+/// No call refuses, and none asks anything of its caller.
+pub trait Engine {
+    /// The state that an engine means.
+    ghost state: { Self → List ℕ };
+
+    law whole: { (x : Self) → State (state x) };
+
+    /// The state becomes these bytes.
+    fn load(&mut self, bytes: &[u8; 40])
+        ensures { λ _. ⌜ state (now (self .exit)) ≡ now (bytes .entry) ⌝ };
+
+    /// Byte `k`, or 0 where there is none.
+    fn byte(&self, k: usize) -> u8
+        ensures { λ r. ⌜ r ≡ getD (state (now (self .entry))) k 0 ⌝ };
+
+    /// Byte `k` becomes `b`, and no other changes; past the last byte nothing does.
+    fn set_byte(&mut self, k: usize, b: u8)
+        ensures { λ _. ⌜ state (now (self .exit)) ≡ set (state (now (self .entry))) k b ⌝ };
+
+    /// The state goes through the first `r` rounds; there are 14, and an `r` above counts as 14.
+    fn turn(&mut self, r: usize)
+        ensures { λ _. ⌜ state (now (self .exit)) ≡ permuted r (state (now (self .entry))) ⌝ };
+}

@@ -1,0 +1,4 @@
+pub mod Calls
+pub mod Rates
+pub mod Sealing
+pub mod Sponge

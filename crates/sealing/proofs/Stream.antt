@@ -1,5 +1,5 @@
 -- The stream one byte on, and at its end: what is left of a list gives what the whole list gave.
-use mathlib.Core.Path.{_≡_, sym, refl}
+use mathlib.Core.Path.{_≡_, _∙_, sym, ap, ap₂}
 use mathlib.Core.List.{List, [], _∷_, _++_}
 use Prim.Native.Nat.{ℕ, _+_, _<_, _≤_}
 use lib.Bits.{bitXor}
@@ -45,3 +45,32 @@ module _ (t : Setting) where
   pub sealed-all : (p i : ℕ) (xs s : List ℕ) → length xs ≤ i → sealed-from t p (drop i xs) s ≡ []
   unfolding sealed-from
   sealed-all p i xs s h = at-drop-all (λ ys. sealed-from t p ys s) xs i h
+
+  -- the same of opening, whose bytes are those that went to the state
+  module _ (p p′ i x : ℕ) (ys s s′ : List ℕ) (h : i < length ys) (e : p′ ≡ next t p) (b : x ≡ bitXor (getD s p 0) (getD ys i 0))
+      (f : s′ ≡ fed t 2 p x s) where
+    pub opened-more : x ∷ opened-from t p′ (drop (i + 1) ys) s′ ≡ opened-from t p (drop i ys) s
+    unfolding opened-from
+    opened-more = rw (e, f, b) (sym (at-drop-more (λ zs. opened-from t p zs s) ys i 0 h))
+
+    pub opened-place-more : place-after t p′ (opened-from t p′ (drop (i + 1) ys) s′) ≡ place-after t p (opened-from t p (drop i ys) s)
+    unfolding place-after
+    opened-place-more = ap (λ q. place-after t q (opened-from t p′ (drop (i + 1) ys) s′)) e ∙ ap (place-after t p) opened-more
+
+    pub opened-state-more : state-after t 2 p′ (opened-from t p′ (drop (i + 1) ys) s′) s′
+        ≡ state-after t 2 p (opened-from t p (drop i ys) s) s
+    unfolding state-after
+    opened-state-more =
+        ap₂ (λ q u. state-after t 2 q (opened-from t p′ (drop (i + 1) ys) s′) u) e f ∙ ap (λ zs. state-after t 2 p zs s) opened-more
+
+  pub opened-all : (p i : ℕ) (ys s : List ℕ) → length ys ≤ i → opened-from t p (drop i ys) s ≡ []
+  unfolding opened-from
+  opened-all p i ys s h = at-drop-all (λ zs. opened-from t p zs s) ys i h
+
+  pub opened-place-all : (p i : ℕ) (ys s : List ℕ) → length ys ≤ i → place-after t p (opened-from t p (drop i ys) s) ≡ p
+  unfolding place-after
+  opened-place-all p i ys s h = ap (place-after t p) (opened-all p i ys s h)
+
+  pub opened-state-all : (p i : ℕ) (ys s : List ℕ) → length ys ≤ i → state-after t 2 p (opened-from t p (drop i ys) s) s ≡ s
+  unfolding state-after
+  opened-state-all p i ys s h = ap (λ zs. state-after t 2 p zs s) (opened-all p i ys s h)

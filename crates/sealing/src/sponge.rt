@@ -10,6 +10,7 @@ ghost use mathlib.Core.Path.{_≡_};
 use super::rate::Rate;
 use sycon::engine::Engine;
 
+pub mod open;
 pub mod seal;
 
 // XORs `x` into byte `place` of the state.

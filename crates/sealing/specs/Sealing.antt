@@ -53,15 +53,15 @@ seal-of t key nonce label text = seal-from t key text (ready t key nonce label)
 
 -- the digest has blocks of 8 bytes with 14 rounds behind each and domain 0 throughout. Its vector stands in bytes 16
 -- to 23, zeros around it; four times the first 8 bytes are read, with 14 rounds between
-abbrev pub digesting : Setting
-digesting = record { block = 8; rounds = 14; vector = 0xC5 ∷ 0x63 ∷ 0x6E ∷ 0x2C ∷ 0xD4 ∷ 0x80 ∷ 0x0A ∷ 0x1C ∷ [] }
+abbrev pub hashing : Setting
+hashing = record { block = 8; rounds = 14; vector = 0xC5 ∷ 0x63 ∷ 0x6E ∷ 0x2C ∷ 0xD4 ∷ 0x80 ∷ 0x0A ∷ 0x1C ∷ [] }
 
 abbrev pub digest-start : List ℕ
-digest-start = replicate 16 0 ++ (digesting .vector ++ replicate 16 0)
+digest-start = replicate 16 0 ++ (hashing .vector ++ replicate 16 0)
 
 unfoldable pub squeezed : ℕ → List ℕ → List ℕ
 squeezed zero s = []
 squeezed (suc n) s = take 8 s ++ squeezed n (permuted 14 s)
 
 abbrev pub digest-of : List ℕ → List ℕ
-digest-of text = squeezed 4 (message digesting 0 0 text (permuted 14 digest-start))
+digest-of text = squeezed 4 (message hashing 0 0 text (permuted 14 digest-start))

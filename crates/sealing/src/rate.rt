@@ -1,7 +1,7 @@
 //! The rates at which Sycon seals.
 
 ghost use Prim.Native.Nat.{_≤_};
-ghost use Rattle.sealing.specs.Rates.{Setting, narrow};
+ghost use Rattle.sealing.specs.Rates.{Setting, narrow, wide};
 ghost use lib.ListN.{length};
 ghost use mathlib.Core.Path.{_≡_};
 
@@ -28,7 +28,7 @@ pub trait Rate {
         ensures { λ r. ⌜ r ≡ setting .vector ⌝ };
 }
 
-/// 64 bits.
+/// 64 bits: blocks of 8 bytes.
 pub struct Rate64;
 
 pub impl Rate for Rate64 as Rate64Rate {
@@ -37,6 +37,29 @@ pub impl Rate for Rate64 as Rate64Rate {
     const BLOCK: usize = 8;
     const ROUNDS: usize = 7;
     const INITIAL_VECTOR: u64 = 0;
+
+    fn block_len() -> usize {
+        Self::BLOCK
+    }
+
+    fn round_count() -> usize {
+        Self::ROUNDS
+    }
+
+    fn vector() -> [u8; 8] {
+        Self::INITIAL_VECTOR.to_le_bytes()
+    }
+}
+
+/// 96 bits: blocks of 12 bytes.
+pub struct Rate96;
+
+pub impl Rate for Rate96 as Rate96Rate {
+    ghost setting = { wide };
+
+    const BLOCK: usize = 12;
+    const ROUNDS: usize = 9;
+    const INITIAL_VECTOR: u64 = 0x5980A92AFC5D9D2C;
 
     fn block_len() -> usize {
         Self::BLOCK

@@ -10,6 +10,7 @@ ghost use mathlib.Core.Path.{_≡_};
 use super::rate::Rate;
 use sycon::engine::Engine;
 
+pub mod digest;
 pub mod open;
 pub mod seal;
 
@@ -164,15 +165,16 @@ fn fits(key: &[u8], nonce: &[u8], tag: &[u8], needed: usize, place: usize) -> bo
     key.len() == 16 && nonce.len() == 16 && tag.len() == 16 && needed <= place
 }
 
-// The seal as the state has it.
-fn tag_bytes<E: Engine>(engine: &E) -> [u8; 16]
-    ensures { λ r. ⌜ r ≡ take 16 (drop 16 (E·Engine .state (now (engine .entry)))) ⌝ }
+// Bytes of the state, from place `at` on.
+fn read_bytes<const N: usize, E: Engine>(engine: &E, at: usize) -> [u8; N]
+    requires { ⌜ at + N ≤ 40 ⌝ }
+    ensures { λ r. ⌜ r ≡ take N (drop at (E·Engine .state (now (engine .entry)))) ⌝ }
 {
-    let mut tag = [0u8; 16];
-    for i in 0..16 {
-        tag[i] = engine.byte(16 + i);
+    let mut bytes = [0u8; N];
+    for i in 0..N {
+        bytes[i] = engine.byte(at + i);
     }
-    tag
+    bytes
 }
 
 // The end of a message under the key, and its seal.
@@ -182,7 +184,7 @@ fn finish<R: Rate, E: Engine>(engine: &mut E, key: &[u8]) -> [u8; 16]
     ensures clear { λ _. ⌜ E·Engine .state (now (engine .exit)) ≡ replicate 40 0 ⌝ }
 {
     absorb_key::<R, E>(engine, key, 4, 4);
-    let tag = tag_bytes(engine);
+    let tag = read_bytes::<16, E>(engine, 16);
     engine.load(&[0; 40]);
     tag
 }

@@ -1,0 +1,90 @@
+//! An engine that passes each call on to another, and notes what the permutation was given.
+
+ghost use Rattle.walkthrough.specs.declared.recorder.Recorder.{Recorder};
+ghost use mathlib.Core.Path.{_≡_};
+use sycon::engine::Engine;
+
+pub const ROOM: usize = 32;
+
+/// What was done to the state since it was last loaded or permuted.
+#[derive(Clone, Copy)]
+pub enum Event {
+    Nothing,
+    Loaded([u8; 40]),
+    Permuted { block: [u8; 8], domain: u8, rounds: usize },
+}
+
+/// Another engine, the first bytes and the last of its state as the last event left them, and the events.
+#[derive(Drop)]
+pub struct Recorder<E> {
+    engine: E,
+    front: [u8; 8],
+    last: u8,
+    events: [Event; ROOM],
+    count: usize,
+}
+
+pub impl<E: Engine> Engine for Recorder<E> as RecorderEngine {
+    ghost state = { λ x. E·Engine .state (x .engine) };
+
+    fn load(&mut self, bytes: &[u8; 40]) {
+        self.engine.load(bytes);
+        self.note(Event::Loaded(*bytes));
+    }
+
+    fn byte(&self, k: usize) -> u8 {
+        self.engine.byte(k)
+    }
+
+    fn set_byte(&mut self, k: usize, b: u8) {
+        self.engine.set_byte(k, b);
+    }
+
+    fn turn(&mut self, r: usize) {
+        let event = self.permuted(r);
+        self.engine.turn(r);
+        self.note(event);
+    }
+}
+
+impl<E: Engine> Recorder<E> {
+    pub fn new(engine: E) -> Self {
+        Recorder { engine, front: [0; 8], last: 0, events: [Event::Nothing; ROOM], count: 0 }
+    }
+
+    /// The events so far, oldest first; past `ROOM` none is kept.
+    pub fn event(&self, i: usize) -> Event {
+        if i < self.count && i < ROOM { self.events[i] } else { Event::Nothing }
+    }
+
+    pub fn forget(&mut self)
+        ensures { λ _. ⌜ now (self .exit) .engine ≡ now (self .entry) .engine ⌝ }
+    {
+        self.count = 0;
+    }
+
+    // What changed since the last event: a block in the first bytes, and a domain in the last.
+    fn permuted(&self, rounds: usize) -> Event {
+        let mut block = [0u8; 8];
+        for k in 0..8 {
+            block[k] = self.engine.byte(k) ^ self.front[k];
+        }
+        let marked = self.engine.byte(39) ^ self.last;
+        let domain = marked / 128 + marked / 64 % 2 * 2 + marked / 32 % 2 * 4;
+        Event::Permuted { block, domain, rounds }
+    }
+
+    fn note(&mut self, event: Event)
+        ensures { λ _. ⌜ now (self .exit) .engine ≡ now (self .entry) .engine ⌝ }
+    {
+        for k in 0..8 {
+            self.front[k] = self.engine.byte(k);
+        }
+        self.last = self.engine.byte(39);
+        let at = self.count;
+        if at < ROOM {
+            self.events[at] = event;
+            self.count = at + 1;
+        }
+    }
+}

@@ -45,7 +45,7 @@ bit-shl-under : (x k d : ℕ) → bit (x * 2 ^ (suc d + k)) k ≡ 0
 unfolding bit
 bit-shl-under x k d =
     ap (λ n. n % 2)
-      (ap (λ n. x * n / 2 ^ k) (pow-add 2 (suc d) k) ∙ ap (λ n. n / 2 ^ k) (sym (mul-assoc x (2 ^ suc d) (2 ^ k))) ∙ shl-shr (x * 2 ^ suc d) k)
+    (ap (λ n. x * n / 2 ^ k) (pow-add 2 (suc d) k) ∙ ap (λ n. n / 2 ^ k) (sym (mul-assoc x (2 ^ suc d) (2 ^ k))) ∙ shl-shr (x * 2 ^ suc d) k)
     ∙ ap (λ n. x * n % 2) (pow-suc 2 d) ∙ ap (λ n. n % 2) (sym (mul-assoc x (2 ^ d) 2)) ∙ mul-mod-left (x * 2 ^ d) 2
 
 pub bit-below : (x j k : ℕ) → k < j → bit (x * 2 ^ j) k ≡ 0
@@ -79,7 +79,7 @@ bit-not-over x d k h =
     let parts : x / 2 ^ k * 2 ^ k + x % 2 ^ k ≡ x = split x k in
     let rest : x % 2 ^ k < 2 ^ k = mod-lt x (pow-pos k) in
     let product : (2 ^ suc d - 1 - q) * 2 ^ k + (q + 1) * 2 ^ k ≡ 2 ^ suc d * 2 ^ k =
-      sym (add-mul (2 ^ suc d - 1 - q) (q + 1) (2 ^ k)) ∙ ap (λ n. n * 2 ^ k) (omega arith)
+    sym (add-mul (2 ^ suc d - 1 - q) (q + 1) (2 ^ k)) ∙ ap (λ n. n * 2 ^ k) (omega arith)
     in
     let product₂ : (q + 1) * 2 ^ k ≡ q * 2 ^ k + 1 * 2 ^ k = add-mul q 1 (2 ^ k) in
     let sum : 2 ^ (suc d + k) - 1 - x ≡ (2 ^ suc d - 1 - q) * 2 ^ k + (2 ^ k - 1 - x % 2 ^ k) = omega arith in
@@ -97,29 +97,29 @@ turned-down : (x by back c : ℕ) → x < 2 ^ 64 → by < 64 → by + back ≡ 6
     → bitOr (bit x (by + c)) (bit (x * 2 ^ back) c) ≡ bit x ((c + by) % 64)
 turned-down x by back c h l e k =
     ⊎-elim
-      (λ small. ap (bitOr (bit x (by + c))) (bit-below x back c small) ∙ or-zero-r (bit x (by + c)) ∙ ap (bit x) (omega arith))
-      (λ large.
-        ap₂ bitOr (bit-past 64 x (by + c) h (omega arith)) (ap (bit (x * 2 ^ back)) (omega arith) ∙ bit-shl x back (c - back))
-        ∙ ap (bit x) (omega arith))
-      (cases-lt c back)
+    (λ small. ap (bitOr (bit x (by + c))) (bit-below x back c small) ∙ or-zero-r (bit x (by + c)) ∙ ap (bit x) (omega arith))
+    (λ large.
+    ap₂ bitOr (bit-past 64 x (by + c) h (omega arith)) (ap (bit (x * 2 ^ back)) (omega arith) ∙ bit-shl x back (c - back))
+    ∙ ap (bit x) (omega arith))
+    (cases-lt c back)
 
 pub bit-rotate : (x k c : ℕ) → x < 2 ^ 64 → c < 64
     → bit (bitOr (x / 2 ^ (k % 64)) ((x * 2 ^ ((64 - k % 64) % 64)) % 2 ^ 64)) c ≡ bit x ((c + k) % 64)
 bit-rotate x k c h l =
     let by : ℕ = k % 64 in
     let whole : bit (bitOr (x / 2 ^ by) ((x * 2 ^ ((64 - by) % 64)) % 2 ^ 64)) c ≡ bitOr (bit x (by + c)) (bit (x * 2 ^ ((64 - by) % 64)) c) =
-      bit-or (x / 2 ^ by) ((x * 2 ^ ((64 - by) % 64)) % 2 ^ 64) c
-      ∙ ap₂ bitOr (bit-shr x by c) (bit-mod (x * 2 ^ ((64 - by) % 64)) 64 c l)
+    bit-or (x / 2 ^ by) ((x * 2 ^ ((64 - by) % 64)) % 2 ^ 64) c
+    ∙ ap₂ bitOr (bit-shr x by c) (bit-mod (x * 2 ^ ((64 - by) % 64)) 64 c l)
     in
     whole
     ∙ ⊎-elim
-        (λ (none : by ≡ 0).
-          let nothing : (64 - by) % 64 ≡ 0 = omega arith in
-          let here : by + c ≡ c = omega arith in
-          ap₂ bitOr (ap (bit x) here) (ap (λ n. bit (x * 2 ^ n) c) nothing ∙ ap (λ n. bit n c) (mul-one x))
-          ∙ or-self (bit x c) ∙ ap (bit x) (omega arith))
-        (λ (some : 0 < by).
-          let left : (64 - by) % 64 ≡ 64 - by = omega arith in
-          ap (λ n. bitOr (bit x (by + c)) (bit (x * 2 ^ n) c)) left
-          ∙ turned-down x by (64 - by) c h (mod-lt k (lit< tt)) (omega arith) l ∙ ap (bit x) (omega arith))
-        (eq-zero-or-pos by)
+    (λ (none : by ≡ 0).
+    let nothing : (64 - by) % 64 ≡ 0 = omega arith in
+    let here : by + c ≡ c = omega arith in
+    ap₂ bitOr (ap (bit x) here) (ap (λ n. bit (x * 2 ^ n) c) nothing ∙ ap (λ n. bit n c) (mul-one x))
+    ∙ or-self (bit x c) ∙ ap (bit x) (omega arith))
+    (λ (some : 0 < by).
+    let left : (64 - by) % 64 ≡ 64 - by = omega arith in
+    ap (λ n. bitOr (bit x (by + c)) (bit (x * 2 ^ n) c)) left
+    ∙ turned-down x by (64 - by) c h (mod-lt k (lit< tt)) (omega arith) l ∙ ap (bit x) (omega arith))
+    (eq-zero-or-pos by)

@@ -27,7 +27,7 @@ unfolding number
 number-same zero g h e = refl
 number-same (suc n) g h e =
     ap₂ (λ x y. x + 2 * y) (e 0 (omega arith))
-      (number-same n (λ i. g (suc i)) (λ i. h (suc i)) (λ i l. e (suc i) (omega arith)))
+    (number-same n (λ i. g (suc i)) (λ i. h (suc i)) (λ i l. e (suc i) (omega arith)))
 
 bit-of-digit : (x : ℕ) → x < 2 → bit x 0 ≡ x
 unfolding bit
@@ -57,7 +57,7 @@ unfolding number bit
 number-bits zero x = sym (mod-one x)
 number-bits (suc n) x =
     ap₂ (λ y z. y % 2 + 2 * z) (div-one x)
-      (number-same n (λ i. bit x (suc i)) (bit (x / 2)) (λ i l. ap (bit x) (sym (one-add i)) ∙ sym (bit-shr x 1 i)) ∙ number-bits n (x / 2))
+    (number-same n (λ i. bit x (suc i)) (bit (x / 2)) (λ i l. ap (bit x) (sym (one-add i)) ∙ sym (bit-shr x 1 i)) ∙ number-bits n (x / 2))
     ∙ sym (ap (λ k. x % 2 ^ k) (sym (add-one n)) ∙ mod-pow-add x n 1 ∙ omega arith)
 
 -- byte k holds the digits of a word from column 8 * (k % 8) on
@@ -101,7 +101,7 @@ module _ (f : Bits) (k : ℕ) (h : k < 40) where
 pub pack-same : (f g : Bits) → Same f g → pack f ≡ pack g
 pack-same f g e =
     same-states (pack f) (pack g) (length-pack f) (length-pack g)
-      (λ k h. same-at f k h g (λ i l. e (k / 8) (8 * (k % 8) + i) (omega arith) (omega arith)))
+    (λ k h. same-at f k h g (λ i l. e (k / 8) (8 * (k % 8) + i) (omega arith) (omega arith)))
 
 pub bits-pack : (f : Bits) → ((j c : ℕ) → f j c < 2) → Same (bits (pack f)) f
 unfolding bits
@@ -112,30 +112,30 @@ bits-pack f d j c hj hc =
 
 pub state-pack : (f : Bits) → ((j c : ℕ) → f j c < 2) → State (pack f)
 state-pack f d =
-    record
-      { whole = length-pack f
-      ; bytes = all-from-getD (λ b. b < 256) (pack f) 0
+    record {
+      whole = length-pack f;
+      bytes = all-from-getD (λ b. b < 256) (pack f) 0
           (λ k h. let l : k < 40 = rw length-pack at h in
-            rw (getD-pack f k l) (number-below 8 (λ i. f (k / 8) (8 * (k % 8) + i)) (λ i. d (k / 8) (8 * (k % 8) + i))))
-      }
+          rw (getD-pack f k l) (number-below 8 (λ i. f (k / 8) (8 * (k % 8) + i)) (λ i. d (k / 8) (8 * (k % 8) + i))));
+    }
 
 pub pack-bits : (s : List ℕ) → State s → pack (bits s) ≡ s
 unfolding bits
 pack-bits s st =
     same-states (pack (bits s)) s (length-pack (bits s)) (st .whole)
-      (λ k h. pack-at (bits s) k h (getD s k 0) (all-getD (λ b. b < 256) s k 0 (rw (st .whole) h) (st .bytes))
-        (λ i l. ap₂ (λ n m. bit (getD s n 0) m) (omega arith) (omega arith)))
+    (λ k h. pack-at (bits s) k h (getD s k 0) (all-getD (λ b. b < 256) s k 0 (rw (st .whole) h) (st .bytes))
+    (λ i l. ap₂ (λ n m. bit (getD s n 0) m) (omega arith) (omega arith)))
 
 -- one byte replaced
 pub pack-set : (f g : Bits) (k b : ℕ) → k < 40 → b < 256 → ((i : ℕ) → i < 8 → g (k / 8) (8 * (k % 8) + i) ≡ bit b i)
     → ((j c : ℕ) → j < 5 → c < 64 → (8 * j + c / 8 ≡ k → ⊥) → g j c ≡ f j c) → pack g ≡ set (pack f) k b
 pack-set f g k b h l here there =
     same-states (pack g) (set (pack f) k b) (length-pack g) (length-set (pack f) k b ∙ length-pack f)
-      (λ n m. ⊎-elim
-        (λ (e : n ≡ k).
-          ap (λ x. getD (pack g) x 0) e ∙ pack-at g k h b l here
-          ∙ sym (ap (λ x. getD (set (pack f) k b) x 0) e ∙ getD-set-same (pack f) k b 0 (rw (length-pack f) h)))
-        (λ (o : n ≡ k → ⊥).
-          same-at g n m f (λ i r. there (n / 8) (8 * (n % 8) + i) (omega arith) (omega arith) (λ e. o (omega arith)))
-          ∙ sym (getD-set-other (pack f) k n b 0 o))
-        (cases-eq n k))
+    (λ n m. ⊎-elim
+    (λ (e : n ≡ k).
+    ap (λ x. getD (pack g) x 0) e ∙ pack-at g k h b l here
+    ∙ sym (ap (λ x. getD (set (pack f) k b) x 0) e ∙ getD-set-same (pack f) k b 0 (rw (length-pack f) h)))
+    (λ (o : n ≡ k → ⊥).
+    same-at g n m f (λ i r. there (n / 8) (8 * (n % 8) + i) (omega arith) (omega arith) (λ e. o (omega arith)))
+    ∙ sym (getD-set-other (pack f) k n b 0 o))
+    (cases-eq n k))

@@ -1,0 +1,4 @@
+mod Gathering
+mod Held
+mod Loading
+mod Substitution

@@ -1,0 +1,4 @@
+use Rattle.sliced.proofs.row.with_byte.Needs as need
+
+pub returns : need.returns
+returns c = ?

@@ -7,10 +7,12 @@ use native.Mathlib.Omega.{arith}
 use native.Mathlib.Nat.{mod-eq-of-lt}
 use lib.Bits.{bitAnd, bitXor, and-zero-r, xor-zero-r, and-mask}
 use lib.Dec.{T, eqb, eqb→eq}
+use lib.ListN.{length, getD, take}
+use Rattle.std.proofs.shelf.Sums.{folded-more}
 use Rattle.std.specs.Iters.{folded}
 use Rattle.sycon.specs.Permutation.{bit}
 use Rattle.sycon.proofs.Digits.{bit-digit}
-use Rattle.sycon.proofs.Tests.{both}
+use Rattle.sycon.proofs.Tests.{every, both, at}
 use Rattle.sliced.specs.Rows.{gathered}
 
 -- by a digit: the first answer at 1, the second at 0
@@ -65,6 +67,19 @@ module _ (row : ℕ → ℕ) (c : ℕ) where
           ∙ ap row (eqb→eq ((c + t .0) % 64) p (k2 .0)))
         h
 
-  pub gathered-from : ((c : ℕ) → row c < 2) → (ts : List (ℕ × ℕ)) (p : ℕ) → T (leads ts c p) → gathered ts row c ≡ row p
+  gathered-from : ((c : ℕ) → row c < 2) → (ts : List (ℕ × ℕ)) (p : ℕ) → T (leads ts c p) → gathered ts row c ≡ row p
   unfolding gathered
   gathered-from d ts p h = one-leads d ts p h
+
+-- one term more
+pub gathered-more : (row : ℕ → ℕ) (c : ℕ) (ts : List (ℕ × ℕ)) (i : ℕ) → i < length ts
+    → gathered (take (i + 1) ts) row c
+      ≡ bitXor (gathered (take i ts) row c) (bitAnd (row ((c + getD ts i (0, 0) .0) % 64)) (bit (getD ts i (0, 0) .1) c))
+unfolding gathered
+gathered-more row c ts i h = folded-more (step row c) 0 ts i (0, 0) h
+
+-- terms that lead everywhere where `route` says, by one test of the 64 columns
+pub gathered-along : (route : ℕ → ℕ) (x r : ℕ) (ts : List (ℕ × ℕ)) → ((c : ℕ) → c < 64 → bit r c ≡ gathered ts (bit x) c)
+    → T (every 64 (λ c. leads ts c (route c))) → (c : ℕ) → c < 64 → bit r c ≡ bit x (route c)
+gathered-along route x r ts e t c h =
+    e c h ∙ gathered-from (bit x) c (bit-digit x) ts (route c) (at 64 (λ c. leads ts c (route c)) t c h)

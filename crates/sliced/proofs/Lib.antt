@@ -1,4 +1,4 @@
+mod Bytes
 mod Gathering
 mod Held
-mod Loading
 mod Substitution

@@ -158,11 +158,11 @@ impl Sliced {
         ensures { λ _. ⌜ held (words (now (self .exit))) ≡ on-state arranged (held (words (now (self .entry)))) ⌝ }
     {
         *self = Sliced {
-            a0: row::arrange(self.a0, 0),
-            a1: row::arrange(self.a1, 1),
-            a2: row::arrange(self.a2, 2),
-            a3: row::arrange(self.a3, 3),
-            a4: row::arrange(self.a4, 4),
+            a0: row::gather(self.a0, &row::ARRANGEMENT[0]),
+            a1: row::gather(self.a1, &row::ARRANGEMENT[1]),
+            a2: row::gather(self.a2, &row::ARRANGEMENT[2]),
+            a3: row::gather(self.a3, &row::ARRANGEMENT[3]),
+            a4: row::gather(self.a4, &row::ARRANGEMENT[4]),
         };
     }
 }

@@ -28,7 +28,7 @@ const CONSTANT_BYTES: [u8; 14] = [
 ];
 
 // For each word the terms (k, mask) of step 4: a column that the mask has comes from the column k to its right.
-const ARRANGEMENT: [[(u32, u64); 7]; 5] = [
+pub const ARRANGEMENT: [[(u32, u64); 7]; 5] = [
     [
         (3, 0x0000_E000_00FF_1F00),
         (11, 0xFF00_001F_FF00_0000),
@@ -134,15 +134,8 @@ pub fn constant(i: usize) -> u64
     0xAAAA_AAAA_AAAA_AA00 + CONSTANT_BYTES[i] as u64
 }
 
-// Step 4 on word j.
-pub fn arrange(x: u64, j: usize) -> u64
-    requires { ⌜ j < 5 ⌝ }
-    ensures { λ r. ⌜ ((c : ℕ) → c < 64 → bit r c ≡ bit x (origin j c)) ⌝ }
-{
-    gather(x, &ARRANGEMENT[j])
-}
-
-fn gather(x: u64, terms: &[(u32, u64)]) -> u64
+// The word's rotations by these amounts, each cut down to its mask, in one.
+pub fn gather(x: u64, terms: &[(u32, u64)]) -> u64
     ensures { λ r. ⌜ ((c : ℕ) → c < 64 → bit r c ≡ gathered (now (terms .entry)) (bit x) c) ⌝ }
 {
     let mut r = 0;

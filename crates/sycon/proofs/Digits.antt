@@ -1,7 +1,7 @@
 -- The bits of a number: of sums, shifts and bit operations.
 use mathlib.Core.Path.{_≡_, refl, sym, ap, ap₂, _∙_}
 use mathlib.Core.Logic.{⊎-elim}
-use Prim.Native.Nat.{ℕ, zero, suc, _+_, _-_, _*_, _/_, _%_, _^_, _≤_, _<_}
+use Prim.Native.Nat.{ℕ, zero, suc, _+_, _-_, _*_, _/_, _%_, _^_, _≤_, _<_, zero-le}
 use native.Mathlib.Nat.{mod-lt, div-eq-of-lt, mul-mod-left, pow-suc, mul-one, mul-assoc, add-mul, lt-of-lt-of-le, eq-zero-or-pos}
 use native.Mathlib.Omega.{arith}
 use lib.Bits.{bitAnd, bitOr, bitXor, and-shr, or-shr, xor-shr, and-mod, or-mod, xor-mod, or-zero-r, or-self}
@@ -30,6 +30,9 @@ bit-xor x y k = ap (λ n. n % 2) (xor-shr x y k) ∙ xor-mod (x / 2 ^ k) (y / 2 
 pub bit-past : (w x k : ℕ) → x < 2 ^ w → w ≤ k → bit x k ≡ 0
 unfolding bit
 bit-past w x k h l = ap (λ n. n % 2) (div-eq-of-lt (lt-of-lt-of-le h (pow-mono l)))
+
+pub bit-zero : (k : ℕ) → bit 0 k ≡ 0
+bit-zero k = bit-past 0 0 k (lit< tt) zero-le
 
 -- shifts
 pub bit-shr : (x j k : ℕ) → bit (x / 2 ^ j) k ≡ bit x (j + k)

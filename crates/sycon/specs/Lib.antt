@@ -1,2 +1,3 @@
 pub mod Permutation
 pub mod Published
+pub mod Steps

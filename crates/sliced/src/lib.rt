@@ -1,0 +1,185 @@
+//! An engine of five words, which takes the steps of a round on all 64 columns at once.
+
+ghost use Prim.Native.Nat.{ℕ, _<_, _≤_, min};
+ghost use Rattle.sliced.specs.Words.{Rows, held, words};
+ghost use Rattle.sycon.specs.Permutation.{added, arranged, bits, diffused, permuted, substituted};
+ghost use Rattle.sycon.specs.Steps.{on-state};
+ghost use lib.ListN.{getD, replicate, set};
+ghost use mathlib.Core.List.{[], _∷_};
+ghost use mathlib.Core.Path.{_≡_};
+
+mod row;
+
+use sycon::engine::Engine;
+
+/// The words A_0 to A_4. Loaded from the lowest byte up, a word has its column c as its bit c.
+#[derive(Drop)]
+pub struct Sliced {
+    a0: u64,
+    a1: u64,
+    a2: u64,
+    a3: u64,
+    a4: u64,
+}
+
+pub impl Engine for Sliced as SlicedEngine {
+    ghost state = { λ x. held (words x) };
+
+    fn load(&mut self, bytes: &[u8; 40]) {
+        *self = Sliced::of(bytes);
+    }
+
+    fn byte(&self, k: usize) -> u8 {
+        self.read(k)
+    }
+
+    fn set_byte(&mut self, k: usize, b: u8) {
+        self.write(k, b);
+    }
+
+    fn turn(&mut self, r: usize) {
+        self.run(r.min(14));
+    }
+}
+
+impl Sliced {
+    /// All 40 bytes are zero.
+    pub fn new() -> Self
+        ensures { λ r. ⌜ held (words r) ≡ replicate 40 0 ⌝ }
+    {
+        Self::of(&[0; 40])
+    }
+
+    // The engine that holds these bytes.
+    fn of(bytes: &[u8; 40]) -> Self
+        ensures { λ r. ⌜ held (words r) ≡ now (bytes .entry) ⌝ }
+    {
+        Self::rows(bytes)
+    }
+
+    fn rows(bytes: &[u8; 40]) -> Self
+        ensures { λ r. ⌜ Rows r (bits (now (bytes .entry))) ⌝ }
+    {
+        Sliced {
+            a0: row::load(bytes, 0),
+            a1: row::load(bytes, 1),
+            a2: row::load(bytes, 2),
+            a3: row::load(bytes, 3),
+            a4: row::load(bytes, 4),
+        }
+    }
+
+    // Word j, or 0 where there is none.
+    fn word(&self, j: usize) -> u64
+        ensures { λ r. ⌜ r ≡ getD (words (now (self .entry))) j 0 ⌝ }
+    {
+        match j {
+            0 => self.a0,
+            1 => self.a1,
+            2 => self.a2,
+            3 => self.a3,
+            4 => self.a4,
+            _ => 0,
+        }
+    }
+
+    fn set_word(&mut self, j: usize, x: u64)
+        ensures { λ _. ⌜ words (now (self .exit)) ≡ set (words (now (self .entry))) j x ⌝ }
+    {
+        match j {
+            0 => self.a0 = x,
+            1 => self.a1 = x,
+            2 => self.a2 = x,
+            3 => self.a3 = x,
+            4 => self.a4 = x,
+            _ => {}
+        }
+    }
+
+    fn read(&self, k: usize) -> u8
+        ensures { λ r. ⌜ r ≡ getD (held (words (now (self .entry)))) k 0 ⌝ }
+    {
+        row::byte(self.word(k / 8), k % 8)
+    }
+
+    fn write(&mut self, k: usize, b: u8)
+        ensures { λ _. ⌜ held (words (now (self .exit))) ≡ set (held (words (now (self .entry)))) k b ⌝ }
+    {
+        let j = k / 8;
+        self.set_word(j, row::with_byte(self.word(j), k % 8, b));
+    }
+
+    // The rounds 0 to n - 1.
+    fn run(&mut self, n: usize)
+        requires { ⌜ n ≤ 14 ⌝ }
+        ensures { λ _. ⌜ ((r : ℕ) → n ≡ min r 14 → held (words (now (self .exit))) ≡ permuted r (held (words (now (self .entry))))) ⌝ }
+    {
+        for i in 0..n {
+            self.round(i);
+        }
+    }
+
+    fn round(&mut self, i: usize)
+        requires { ⌜ i < 14 ⌝ }
+        ensures { λ _. ⌜ held (words (now (self .exit))) ≡ on-state arranged (on-state (added i) (on-state diffused (on-state substituted (held (words (now (self .entry))))))) ⌝ }
+    {
+        self.substitute();
+        self.diffuse();
+        self.add_constant(i);
+        self.arrange();
+    }
+
+    fn substitute(&mut self)
+        ensures { λ _. ⌜ held (words (now (self .exit))) ≡ on-state substituted (held (words (now (self .entry)))) ⌝ }
+    {
+        *self = sbox(self.a0, self.a1, self.a2, self.a3, self.a4);
+    }
+
+    fn diffuse(&mut self)
+        ensures { λ _. ⌜ held (words (now (self .exit))) ≡ on-state diffused (held (words (now (self .entry)))) ⌝ }
+    {
+        *self = Sliced {
+            a0: row::diffuse(self.a0, 0),
+            a1: row::diffuse(self.a1, 1),
+            a2: row::diffuse(self.a2, 2),
+            a3: row::diffuse(self.a3, 3),
+            a4: row::diffuse(self.a4, 4),
+        };
+    }
+
+    fn add_constant(&mut self, i: usize)
+        requires { ⌜ i < 14 ⌝ }
+        ensures { λ _. ⌜ held (words (now (self .exit))) ≡ on-state (added i) (held (words (now (self .entry)))) ⌝ }
+    {
+        self.a2 ^= row::constant(i);
+    }
+
+    fn arrange(&mut self)
+        ensures { λ _. ⌜ held (words (now (self .exit))) ≡ on-state arranged (held (words (now (self .entry)))) ⌝ }
+    {
+        *self = Sliced {
+            a0: row::gather(self.a0, &row::ARRANGEMENT[0]),
+            a1: row::gather(self.a1, &row::ARRANGEMENT[1]),
+            a2: row::gather(self.a2, &row::ARRANGEMENT[2]),
+            a3: row::gather(self.a3, &row::ARRANGEMENT[3]),
+            a4: row::gather(self.a4, &row::ARRANGEMENT[4]),
+        };
+    }
+}
+
+// The S-box on all columns.
+fn sbox(a0: u64, a1: u64, a2: u64, a3: u64, a4: u64) -> Sliced
+    ensures { λ r. ⌜ held (words r) ≡ on-state substituted (held (a0 ∷ a1 ∷ a2 ∷ a3 ∷ a4 ∷ [])) ⌝ }
+{
+    let t0 = a2 ^ a4;
+    let t1 = t0 ^ a1;
+    let t2 = a1 ^ a3;
+    let t3 = a0 ^ a4;
+    Sliced {
+        a0: t3 ^ (t1 & a3),
+        a1: (!a1 & a3) ^ t1 ^ (!t2 & a0),
+        a2: (!t3 & a2) ^ t2,
+        a3: (!t0 & a3) ^ a0 ^ !a2,
+        a4: (!a4 & a0) ^ t2,
+    }
+}

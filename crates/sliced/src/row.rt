@@ -1,0 +1,146 @@
+//! The steps on one word.
+
+ghost use Prim.Native.Nat.{ℕ, _+_, _*_, _/_, _%_, _^_, _<_};
+ghost use Rattle.sliced.specs.Rows.{gathered, spread};
+ghost use Rattle.sycon.specs.Permutation.{bit, bits, constant-bytes, first-rotation, of-word, origin, second-rotation};
+ghost use lib.ListN.{getD};
+ghost use mathlib.Core.Path.{_≡_};
+
+const FIRST_ROTATION: [u32; 5] = [11, 13, 31, 56, 6];
+
+const SECOND_ROTATION: [u32; 5] = [22, 26, 62, 60, 12];
+
+const CONSTANT_BYTES: [u8; 14] = [
+    0x15,
+    0x1A,
+    0x1D,
+    0x0E,
+    0x17,
+    0x1B,
+    0x0D,
+    0x06,
+    0x03,
+    0x11,
+    0x18,
+    0x1C,
+    0x1E,
+    0x1F,
+];
+
+// For each word the terms (k, mask) of step 4: a column that the mask has comes from the column k to its right.
+pub const ARRANGEMENT: [[(u32, u64); 7]; 5] = [
+    [
+        (3, 0x0000_E000_00FF_1F00),
+        (11, 0xFF00_001F_FF00_0000),
+        (19, 0x0000_1F00_0000_0000),
+        (27, 0x00E0_0000_0000_0000),
+        (43, 0x001F_0000_0000_0000),
+        (51, 0x0000_0000_0000_E0FF),
+        (59, 0x0000_00E0_0000_0000),
+    ],
+    [
+        (4, 0x0000_0000_0000_00FF),
+        (20, 0x0000_0000_F000_0000),
+        (36, 0xF0FF_0000_0F00_0000),
+        (44, 0x0000_00F0_00F0_FF00),
+        (52, 0x0F00_0000_0000_0000),
+        (60, 0x0000_FF0F_000F_0000),
+        (0, 0),
+    ],
+    [
+        (2, 0x0000_0000_0000_C000),
+        (10, 0x003F_0000_FFC0_0000),
+        (18, 0x0000_C000_0000_3F00),
+        (26, 0xFF00_0000_003F_0000),
+        (34, 0x0000_3FFF_0000_0000),
+        (50, 0x0000_0000_0000_00FF),
+        (58, 0x00C0_0000_0000_0000),
+    ],
+    [
+        (7, 0xFEFF_FE00_0100_0000),
+        (15, 0x0000_0000_00FE_0000),
+        (23, 0x0100_0100_0000_00FF),
+        (31, 0x0000_0000_0001_FF00),
+        (39, 0x0000_00FF_0000_0000),
+        (55, 0x0000_0000_FE00_0000),
+        (0, 0),
+    ],
+    [
+        (5, 0x0000_F800_0000_0000),
+        (13, 0x0000_0007_0000_00F8),
+        (21, 0x0000_0700_0000_0000),
+        (29, 0x0000_0000_0000_0007),
+        (37, 0x00FF_0000_0000_0000),
+        (45, 0xFF00_0000_FFF8_FF00),
+        (61, 0x0000_00F8_0007_0000),
+    ],
+];
+
+// Word j of a state.
+pub fn load(bytes: &[u8; 40], j: usize) -> u64
+    requires { ⌜ j < 5 ⌝ }
+    ensures { λ r. ⌜ ((c : ℕ) → c < 64 → bit r c ≡ bits (now (bytes .entry)) j c) ⌝ }
+{
+    let k = 8 * j;
+    u64::from_le_bytes([
+        bytes[k],
+        bytes[k + 1],
+        bytes[k + 2],
+        bytes[k + 3],
+        bytes[k + 4],
+        bytes[k + 5],
+        bytes[k + 6],
+        bytes[k + 7],
+    ])
+}
+
+// Byte i of a word, from the lowest.
+pub fn byte(x: u64, i: usize) -> u8
+    requires { ⌜ i < 8 ⌝ }
+    ensures { λ r. ⌜ r ≡ x / 2 ^ (8 * i) % 256 ⌝ }
+{
+    ((x >> (8 * i)) % 256) as u8
+}
+
+// The word with byte i replaced.
+pub fn with_byte(x: u64, i: usize, b: u8) -> u64
+    requires { ⌜ i < 8 ⌝ }
+    ensures here { λ r. ⌜ ((k : ℕ) → k < 8 → bit r (8 * i + k) ≡ bit b k) ⌝ }
+    ensures there { λ r. ⌜ ((c : ℕ) → c < 64 → (c / 8 ≡ i → ⊥) → bit r c ≡ bit x c) ⌝ }
+{
+    (x & !(0xFF << (8 * i))) | ((b as u64) << (8 * i))
+}
+
+// Step 2 on word j.
+pub fn diffuse(x: u64, j: usize) -> u64
+    requires { ⌜ j < 5 ⌝ }
+    ensures { λ r. ⌜ ((c : ℕ) → c < 64 → bit r c ≡ spread (bit x) (of-word first-rotation j) (of-word second-rotation j) c) ⌝ }
+{
+    xor_rotated(x, FIRST_ROTATION[j], SECOND_ROTATION[j])
+}
+
+// The word XORed with two left rotations of its row. In a row column 0 stands first, so that is a right rotation of the number.
+fn xor_rotated(x: u64, a: u32, b: u32) -> u64
+    ensures { λ r. ⌜ ((c : ℕ) → c < 64 → bit r c ≡ spread (bit x) a b c) ⌝ }
+{
+    x ^ x.rotate_right(a) ^ x.rotate_right(b)
+}
+
+// The constant of round i.
+pub fn constant(i: usize) -> u64
+    requires { ⌜ i < 14 ⌝ }
+    ensures { λ r. ⌜ r ≡ 0xAAAAAAAAAAAAAA00 + getD constant-bytes i 0 ⌝ }
+{
+    0xAAAA_AAAA_AAAA_AA00 + CONSTANT_BYTES[i] as u64
+}
+
+// The word's rotations by these amounts, each cut down to its mask, in one.
+pub fn gather(x: u64, terms: &[(u32, u64)]) -> u64
+    ensures { λ r. ⌜ ((c : ℕ) → c < 64 → bit r c ≡ gathered (now (terms .entry)) (bit x) c) ⌝ }
+{
+    let mut r = 0;
+    for (k, mask) in terms {
+        r ^= x.rotate_right(*k) & *mask;
+    }
+    r
+}

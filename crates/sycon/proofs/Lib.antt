@@ -1,0 +1,4 @@
+pub mod Digits
+pub mod Packing
+pub mod Steps
+pub mod Tests

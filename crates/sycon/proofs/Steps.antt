@@ -1,0 +1,85 @@
+-- The steps of a round as maps of states.
+use mathlib.Core.Path.{_≡_, refl, sym, ap, ap₂, _∙_}
+use mathlib.Core.List.{List, [], _∷_}
+use Prim.Native.Nat.{ℕ, _+_, _*_, _/_, _%_, _<_}
+use native.Mathlib.Nat.{mod-lt}
+use native.Mathlib.Omega.{arith}
+use lib.Bits.{bitXor, xor-lt}
+use lib.Dec.{ltb, ltb→lt, lit<}
+use lib.ListN.{getD}
+use Rattle.sycon.specs.Permutation.{Bits, bit, bits, pack, of-word, column, substituted, diffused, round-constant, added, turned, origin, arranged, round}
+use Rattle.sycon.specs.Steps.{Same, on-state}
+use Rattle.sycon.proofs.Digits.{bit-digit}
+use Rattle.sycon.proofs.Packing.{pack-same, bits-pack}
+use Rattle.sycon.proofs.Tests.{every, at}
+
+-- what a step makes of a state hangs on the state's digits alone
+abbrev pub Respects : (Bits → Bits) → Type 0
+Respects step = (f g : Bits) → Same f g → Same (step f) (step g)
+
+abbrev pub Digits : Bits → Type 0
+Digits f = (j c : ℕ) → f j c < 2
+
+pub on-pack : (step : Bits → Bits) → Respects step → (f : Bits) → Digits f → on-state step (pack f) ≡ pack (step f)
+unfolding on-state
+on-pack step r f d = pack-same (step (bits (pack f))) (step f) (r (bits (pack f)) f (bits-pack f d))
+
+-- an engine whose bits were f, and are now what the step makes of f, took the step
+pub stepped : (step : Bits → Bits) → Respects step → (f g : Bits) → Digits f → Same g (step f) → pack g ≡ on-state step (pack f)
+stepped step r f g d e = pack-same g (step f) e ∙ sym (on-pack step r f d)
+
+pub digits-bits : (s : List ℕ) → Digits (bits s)
+unfolding bits
+digits-bits s j c = bit-digit (getD s (8 * j + c / 8) 0) (c % 8)
+
+pub digits-substituted : (f : Bits) → Digits (substituted f)
+unfolding substituted
+digits-substituted f j c = bit-digit _ j
+
+pub digits-diffused : (f : Bits) → Digits f → Digits (diffused f)
+unfolding diffused
+digits-diffused f d j c = xor-lt 1 _ _ (xor-lt 1 _ _ (d _ _) (d _ _)) (d _ _)
+
+pub digits-added : (i : ℕ) (f : Bits) → Digits f → Digits (added i f)
+unfolding added
+digits-added i f d j c = xor-lt 1 _ _ (d j c) (bit-digit _ _)
+
+pub respects-substituted : Respects substituted
+unfolding substituted column
+respects-substituted f g e j c hj hc =
+    let e0 : f 0 c ≡ g 0 c = e 0 c (lit< tt) hc in
+    let e1 : f 1 c ≡ g 1 c = e 1 c (lit< tt) hc in
+    let e2 : f 2 c ≡ g 2 c = e 2 c (lit< tt) hc in
+    let e3 : f 3 c ≡ g 3 c = e 3 c (lit< tt) hc in
+    let e4 : f 4 c ≡ g 4 c = e 4 c (lit< tt) hc in
+    cc
+
+pub respects-diffused : Respects diffused
+unfolding diffused
+respects-diffused f g e j c hj hc =
+    ap₂ bitXor (ap₂ bitXor (e j c hj hc) (e j _ hj (mod-lt _ (lit< tt)))) (e j _ hj (mod-lt _ (lit< tt)))
+
+pub respects-added : (i : ℕ) → Respects (added i)
+unfolding added
+respects-added i f g e j c hj hc =
+    ap (λ n. bitXor n (bit (of-word (0 ∷ 0 ∷ round-constant i ∷ 0 ∷ 0 ∷ []) j) c)) (e j c hj hc)
+
+pub origin-below : (j c : ℕ) → j < 5 → c < 64 → origin j c < 64
+unfolding origin turned
+origin-below j c hj hc =
+    ltb→lt (origin j c) 64 (at 64 (λ c. ltb (origin j c) 64) (at 5 (λ j. every 64 (λ c. ltb (origin j c) 64)) tt j hj) c hc)
+
+pub respects-arranged : Respects arranged
+unfolding arranged
+respects-arranged f g e j c hj hc = e j (origin j c) hj (origin-below j c hj hc)
+
+-- a round is its four steps, one after the other
+pub round-steps : (i : ℕ) (s : List ℕ)
+    → on-state arranged (on-state (added i) (on-state diffused (on-state substituted s))) ≡ round i s
+unfolding round on-state
+round-steps i s =
+    let f : Bits = substituted (bits s) in
+    let d = digits-substituted (bits s) in
+    ap (λ t. on-state arranged (on-state (added i) t)) (on-pack diffused respects-diffused f d)
+    ∙ ap (on-state arranged) (on-pack (added i) (respects-added i) (diffused f) (digits-diffused f d))
+    ∙ on-pack arranged respects-arranged (added i (diffused f)) (digits-added i (diffused f) (digits-diffused f d))

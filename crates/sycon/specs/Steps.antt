@@ -1,0 +1,12 @@
+-- A step of the round as a map of states, for engines that take the steps one by one.
+use mathlib.Core.Path.{_≡_}
+use mathlib.Core.List.{List}
+use Prim.Native.Nat.{ℕ, _<_}
+use Rattle.sycon.specs.Permutation.{Bits, bits, pack}
+
+-- the same digit in each column of each word
+abbrev pub Same : Bits → Bits → Type 0
+Same f g = (j c : ℕ) → j < 5 → c < 64 → f j c ≡ g j c
+
+unfoldable pub on-state : (Bits → Bits) → List ℕ → List ℕ
+on-state step s = pack (step (bits s))

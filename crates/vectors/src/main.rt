@@ -35,22 +35,34 @@ fn main(rt: LibcRuntime) -> io::Result<()> {
 }
 
 fn permutation(rt: &LibcRuntime, engine: &mut Sliced) -> io::Result<()> {
+    engine.load(&example());
+    engine.turn(14);
+    compare(rt, "14 rounds on 20 bytes 00 and 20 bytes AA", &bytes_of(engine), PERMUTED)
+}
+
+fn example() -> [u8; 40] {
     let mut state = [0u8; 40];
     for k in 20..40 {
         state[k] = 0xAA;
     }
-    engine.load(&state);
-    engine.turn(14);
+    state
+}
+
+fn bytes_of(engine: &Sliced) -> [u8; 40] {
+    let mut state = [0u8; 40];
     for k in 0..40 {
         state[k] = engine.byte(k);
     }
-    compare(rt, "14 rounds on 20 bytes 00 and 20 bytes AA", &state, PERMUTED)
+    state
 }
 
 fn at_64_bits(rt: &LibcRuntime, engine: &mut Sliced) -> io::Result<()> {
     let mut sealed = [0u8; 39];
     let mut tag = [0u8; 16];
-    let _ = seal::<Rate64, Sliced>(engine, KEY, KEY, LABEL, TEXT, &mut sealed, &mut tag);
+    let answer = seal::<Rate64, Sliced>(engine, KEY, KEY, LABEL, TEXT, &mut sealed, &mut tag);
+    if answer.is_err() {
+        return println!(rt, "64 bits: refused");
+    }
     compare(rt, "64 bits, sealed bytes", &sealed, SEALED_64)?;
     compare(rt, "64 bits, seal", &tag, SEAL_64)
 }
@@ -58,7 +70,10 @@ fn at_64_bits(rt: &LibcRuntime, engine: &mut Sliced) -> io::Result<()> {
 fn at_96_bits(rt: &LibcRuntime, engine: &mut Sliced) -> io::Result<()> {
     let mut sealed = [0u8; 39];
     let mut tag = [0u8; 16];
-    let _ = seal::<Rate96, Sliced>(engine, KEY, KEY, LABEL, TEXT, &mut sealed, &mut tag);
+    let answer = seal::<Rate96, Sliced>(engine, KEY, KEY, LABEL, TEXT, &mut sealed, &mut tag);
+    if answer.is_err() {
+        return println!(rt, "96 bits: refused");
+    }
     compare(rt, "96 bits, by the rules, sealed bytes", &sealed, SEALED_96)?;
     compare(rt, "96 bits, by the rules, seal", &tag, SEAL_96)
 }
@@ -72,15 +87,24 @@ fn at_96_bits_with_slips(rt: &LibcRuntime, engine: &mut Sliced) -> io::Result<()
 }
 
 fn digests(rt: &LibcRuntime, engine: &mut Sliced) -> io::Result<()> {
-    let mut place = [0u8; 32];
-    let _ = digest(engine, TEXT, &mut place);
-    compare(rt, "digest of the printed text", &place, DIGEST)?;
-    let mut counted = [0u8; 39];
+    digest_of(rt, engine, "digest of the printed text", TEXT)?;
+    digest_of(rt, engine, "digest of the bytes 00 to 26", &counted())
+}
+
+fn counted() -> [u8; 39] {
+    let mut bytes = [0u8; 39];
     for k in 0..39u8 {
-        counted[k as usize] = k;
+        bytes[k as usize] = k;
     }
-    let _ = digest(engine, &counted, &mut place);
-    compare(rt, "digest of the bytes 00 to 26", &place, DIGEST)
+    bytes
+}
+
+fn digest_of(rt: &LibcRuntime, engine: &mut Sliced, name: &str, text: &[u8]) -> io::Result<()> {
+    let mut place = [0u8; 32];
+    if digest(engine, text, &mut place).is_err() {
+        return println!(rt, "{name}: refused");
+    }
+    compare(rt, name, &place, DIGEST)
 }
 
 fn compare(rt: &LibcRuntime, name: &str, computed: &[u8], published: &str) -> io::Result<()> {

@@ -101,23 +101,27 @@ fn part(i: usize) -> &'static str {
 fn event(rt: &LibcRuntime, part: &str, event: Event) -> io::Result<()> {
     match event {
         Event::Nothing => Ok(()),
-        Event::Loaded(bytes) => loaded(rt, &bytes),
-        Event::Permuted { block: [0, 0, 0, 0, 0, 0, 0, 0], domain: 0, rounds } => println!(rt, "{rounds} rounds"),
-        Event::Permuted { block, domain, rounds } => {
-            print!(rt, "{part} block absorbed: ")?;
-            digits(rt, &block)?;
-            println!(rt, ", domain {domain}, {rounds} rounds")
-        }
+        Event::Loaded(bytes) => loaded(rt, bytes),
+        Event::Permuted { block, domain, rounds } => permuted(rt, part, block, domain, rounds),
     }
 }
 
-fn loaded(rt: &LibcRuntime, bytes: &[u8; 40]) -> io::Result<()> {
-    if *bytes == [0; 40] {
+fn loaded(rt: &LibcRuntime, bytes: [u8; 40]) -> io::Result<()> {
+    if bytes == [0; 40] {
         return println!(rt, "engine cleared");
     }
     hex(rt, "key loaded", &bytes[0..16])?;
     hex(rt, "nonce loaded", &bytes[16..32])?;
     hex(rt, "initial vector loaded", &bytes[32..40])
+}
+
+fn permuted(rt: &LibcRuntime, part: &str, block: [u8; 8], domain: u8, rounds: usize) -> io::Result<()> {
+    if block == [0; 8] && domain == 0 {
+        return println!(rt, "{rounds} rounds");
+    }
+    print!(rt, "{part} block absorbed: ")?;
+    digits(rt, &block)?;
+    println!(rt, ", domain {domain}, {rounds} rounds")
 }
 
 fn words(rt: &LibcRuntime, name: &str, text: &[u8]) -> io::Result<()> {

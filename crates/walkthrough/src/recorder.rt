@@ -65,21 +65,18 @@ impl<E: Engine> Recorder<E> {
 
     // What changed since the last event: a block in the first bytes, and a domain in the last.
     fn permuted(&self, rounds: usize) -> Event {
-        let mut block = [0u8; 8];
+        let mut block = front_bytes(&self.engine);
         for k in 0..8 {
-            block[k] = self.engine.byte(k) ^ self.front[k];
+            block[k] ^= self.front[k];
         }
-        let marked = self.engine.byte(39) ^ self.last;
-        let domain = marked / 128 + marked / 64 % 2 * 2 + marked / 32 % 2 * 4;
+        let domain = domain_of(self.engine.byte(39) ^ self.last);
         Event::Permuted { block, domain, rounds }
     }
 
     fn note(&mut self, event: Event)
         ensures { λ _. ⌜ now (self .exit) .engine ≡ now (self .entry) .engine ⌝ }
     {
-        for k in 0..8 {
-            self.front[k] = self.engine.byte(k);
-        }
+        self.front = front_bytes(&self.engine);
         self.last = self.engine.byte(39);
         let at = self.count;
         if at < ROOM {
@@ -87,4 +84,17 @@ impl<E: Engine> Recorder<E> {
             self.count = at + 1;
         }
     }
+}
+
+fn front_bytes<E: Engine>(engine: &E) -> [u8; 8] {
+    let mut front = [0u8; 8];
+    for k in 0..8 {
+        front[k] = engine.byte(k);
+    }
+    front
+}
+
+// The domain whose three bits stand at the end of this byte, the unit last.
+fn domain_of(byte: u8) -> u8 {
+    byte / 128 + byte / 64 % 2 * 2 + byte / 32 % 2 * 4
 }

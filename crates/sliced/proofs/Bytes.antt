@@ -23,25 +23,26 @@ bit-number : (n : ℕ) (g : ℕ → ℕ) → ((i : ℕ) → i < n → g i < 256)
 unfolding number
 bit-number zero g l c h = absurd (omega arith)
 bit-number (suc n) g l c h =
+    let rest : ℕ = number n (λ i. g (suc i)) in
+    let low : g 0 < 256 = l 0 (omega arith) in
     ⊎-elim
-      (λ (s : c < 8). bit-low 8 (g 0) (number n (λ i. g (suc i))) c (l 0 (omega arith)) s ∙ ap₂ (λ i k. bit (g i) k) (omega arith) (omega arith))
-      (λ s.
-        let e : c ≡ 8 + (c - 8) = omega arith in
-        let i : suc ((c - 8) / 8) ≡ c / 8 = omega arith in
-        let k : (c - 8) % 8 ≡ c % 8 = omega arith in
-        ap (bit (number n (λ i. g (suc i)) * 256 + g 0)) e
-        ∙ bit-high 8 (g 0) (number n (λ i. g (suc i))) (c - 8) (l 0 (omega arith))
-        ∙ bit-number n (λ i. g (suc i)) (λ i m. l (suc i) (omega arith)) (c - 8) (omega arith)
-        ∙ ap₂ (λ i k. bit (g i) k) i k)
-      (cases-lt c 8)
+    (λ (s : c < 8). bit-low 8 (g 0) rest c low s ∙ ap₂ (λ i k. bit (g i) k) (omega arith) (omega arith))
+    (λ s.
+    let e : c ≡ 8 + (c - 8) = omega arith in
+    let i : suc ((c - 8) / 8) ≡ c / 8 = omega arith in
+    let k : (c - 8) % 8 ≡ c % 8 = omega arith in
+    ap (bit (rest * 256 + g 0)) e ∙ bit-high 8 (g 0) rest (c - 8) low
+    ∙ bit-number n (λ i. g (suc i)) (λ i m. l (suc i) (omega arith)) (c - 8) (omega arith)
+    ∙ ap₂ (λ i k. bit (g i) k) i k)
+    (cases-lt c 8)
 
 -- eight bytes of a list, from place k on
 pub bit-loaded : (bs : List ℕ) (k : ℕ) → ((i : ℕ) → getD bs i 0 < 256) → (c : ℕ) → c < 64
     → bit
-      (getD bs k 0 + getD bs (k + 1) 0 * 256 + getD bs (k + 2) 0 * 65536 + getD bs (k + 3) 0 * 16777216
-       + getD bs (k + 4) 0 * 4294967296 + getD bs (k + 5) 0 * 1099511627776 + getD bs (k + 6) 0 * 281474976710656
-       + getD bs (k + 7) 0 * 72057594037927936) c
-      ≡ bit (getD bs (k + c / 8) 0) (c % 8)
+    (getD bs k 0 + getD bs (k + 1) 0 * 256 + getD bs (k + 2) 0 * 65536 + getD bs (k + 3) 0 * 16777216
+    + getD bs (k + 4) 0 * 4294967296 + getD bs (k + 5) 0 * 1099511627776 + getD bs (k + 6) 0 * 281474976710656
+    + getD bs (k + 7) 0 * 72057594037927936) c
+    ≡ bit (getD bs (k + c / 8) 0) (c % 8)
 unfolding number
 bit-loaded bs k l c h =
     let first : getD bs k 0 ≡ getD bs (k + 0) 0 = ap (λ n. getD bs n 0) (sym (add-zero k)) in
@@ -55,11 +56,11 @@ shifted-there : (b i c : ℕ) → b < 256 → i < 8 → c < 64 → (c / 8 ≡ i 
 shifted-there b i c hb hi hc o =
     bit-mod (b * 2 ^ (8 * i)) 64 c hc
     ∙ ⊎-elim (λ s. bit-below b (8 * i) c s)
-        (λ s.
-          let e : c ≡ 8 * i + (c - 8 * i) = omega arith in
-          let past : 8 ≤ c - 8 * i = omega arith in
-          ap (bit (b * 2 ^ (8 * i))) e ∙ bit-shl b (8 * i) (c - 8 * i) ∙ bit-past 8 b (c - 8 * i) hb past)
-        (cases-lt c (8 * i))
+    (λ s.
+    let e : c ≡ 8 * i + (c - 8 * i) = omega arith in
+    let past : 8 ≤ c - 8 * i = omega arith in
+    ap (bit (b * 2 ^ (8 * i))) e ∙ bit-shl b (8 * i) (c - 8 * i) ∙ bit-past 8 b (c - 8 * i) hb past)
+    (cases-lt c (8 * i))
 
 all-ones : (k : ℕ) → k < 8 → bit 255 k ≡ 1
 unfolding bit
@@ -79,11 +80,10 @@ module _ (x i b : ℕ) (hi : i < 8) (hb : b < 256) where
   bit-replaced : (c m n : ℕ) → c < 64 → bit ((255 * 2 ^ (8 * i)) % 2 ^ 64) c ≡ m → bit ((b * 2 ^ (8 * i)) % 2 ^ 64) c ≡ n
       → bit replaced c ≡ bitOr (bitAnd (bit x c) (1 - m)) n
   bit-replaced c m n h em en =
+      let hole : ℕ = (255 * 2 ^ (8 * i)) % 2 ^ 64 in
+      let small : hole < 2 ^ 64 = mod-lt (255 * 2 ^ (8 * i)) (pow-pos 64) in
       bit-or (bitAnd x mask) ((b * 2 ^ (8 * i)) % 2 ^ 64) c
-      ∙ ap₂ bitOr
-          (bit-and x mask c
-            ∙ ap (bitAnd (bit x c)) (bit-not 64 ((255 * 2 ^ (8 * i)) % 2 ^ 64) c (mod-lt (255 * 2 ^ (8 * i)) (pow-pos 64)) h ∙ ap (λ d. 1 - d) em))
-          en
+      ∙ ap₂ bitOr (bit-and x mask c ∙ ap (bitAnd (bit x c)) (bit-not 64 hole c small h ∙ ap (λ d. 1 - d) em)) en
 
   pub replaced-here : (k : ℕ) → k < 8 → bit replaced (8 * i + k) ≡ bit b k
   replaced-here k h =

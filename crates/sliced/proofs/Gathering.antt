@@ -1,7 +1,7 @@
 -- Terms of rotations and masks that bring each column from its place.
 use mathlib.Core.Bool.{Bool, true, false, _&&_}
 use mathlib.Core.List.{List, [], _∷_}
-use mathlib.Core.Path.{_≡_, refl, sym, ap, ap₂, _∙_}
+use mathlib.Core.Path.{_≡_, refl, ap, _∙_}
 use Prim.Native.Nat.{ℕ, zero, suc, _+_, _%_, _<_}
 use native.Mathlib.Omega.{arith}
 use native.Mathlib.Nat.{mod-eq-of-lt}
@@ -53,19 +53,19 @@ module _ (row : ℕ → ℕ) (c : ℕ) where
   nothing-more [] d h = refl
   nothing-more (t ∷ ts) d h =
       by-pick (bit (t .1) c) false (free ts c) (folded step (step d t) ts ≡ d)
-        (λ e k. nothing-more ts (step d t) k ∙ skipped t d e) (λ n e k. absurd k) h
+      (λ e k. nothing-more ts (step d t) k ∙ skipped t d e) (λ n e k. absurd k) h
 
   one-leads : ((c : ℕ) → row c < 2) → (ts : List (ℕ × ℕ)) (p : ℕ) → T (leads ts c p) → folded step 0 ts ≡ row p
   one-leads d [] p h = absurd h
   one-leads d (t ∷ ts) p h =
       by-pick (bit (t .1) c) (eqb ((c + t .0) % 64) p && free ts c) (leads ts c p) (folded step (step 0 t) ts ≡ row p)
-        (λ e k. ap (λ x. folded step x ts) (skipped t 0 e) ∙ one-leads d ts p k)
-        (λ n e k.
-          let k2 = both (eqb ((c + t .0) % 64) p) (free ts c) k in
-          nothing-more ts (step 0 t) (k2 .1)
-          ∙ and-one (row ((c + t .0) % 64)) (bit (t .1) c) n (d ((c + t .0) % 64)) (bit-digit (t .1) c) e
-          ∙ ap row (eqb→eq ((c + t .0) % 64) p (k2 .0)))
-        h
+      (λ e k. ap (λ x. folded step x ts) (skipped t 0 e) ∙ one-leads d ts p k)
+      (λ n e k.
+      let k2 = both (eqb ((c + t .0) % 64) p) (free ts c) k in
+      nothing-more ts (step 0 t) (k2 .1)
+      ∙ and-one (row ((c + t .0) % 64)) (bit (t .1) c) n (d ((c + t .0) % 64)) (bit-digit (t .1) c) e
+      ∙ ap row (eqb→eq ((c + t .0) % 64) p (k2 .0)))
+      h
 
   gathered-from : ((c : ℕ) → row c < 2) → (ts : List (ℕ × ℕ)) (p : ℕ) → T (leads ts c p) → gathered ts row c ≡ row p
   unfolding gathered
@@ -74,7 +74,7 @@ module _ (row : ℕ → ℕ) (c : ℕ) where
 -- one term more
 pub gathered-more : (row : ℕ → ℕ) (c : ℕ) (ts : List (ℕ × ℕ)) (i : ℕ) → i < length ts
     → gathered (take (i + 1) ts) row c
-      ≡ bitXor (gathered (take i ts) row c) (bitAnd (row ((c + getD ts i (0, 0) .0) % 64)) (bit (getD ts i (0, 0) .1) c))
+    ≡ bitXor (gathered (take i ts) row c) (bitAnd (row ((c + getD ts i (0, 0) .0) % 64)) (bit (getD ts i (0, 0) .1) c))
 unfolding gathered
 gathered-more row c ts i h = folded-more (step row c) 0 ts i (0, 0) h
 

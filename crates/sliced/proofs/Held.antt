@@ -9,7 +9,7 @@ use lib.Dec.{lit<}
 use lib.ListN.{length, getD, set}
 use Rattle.std.proofs.shelf.Lists.{getD-past, getD-set-same, getD-set-other, set-past}
 use Rattle.std.proofs.shelf.Tests.{cases-eq, cases-lt}
-use Rattle.sycon.specs.Permutation.{State, Bits, bit, bits, pack}
+use Rattle.sycon.specs.Permutation.{State, Bits, bit, bits}
 use Rattle.sycon.specs.Steps.{Same, on-state}
 use Rattle.sycon.proofs.Digits.{bit-digit, bit-shr, bit-mod}
 use Rattle.sycon.proofs.Packing.{pack-at, pack-same, pack-bits, pack-set, state-pack}
@@ -51,39 +51,39 @@ unfolding held
 held-byte-in ws k h =
     let x : ℕ = getD ws (k / 8) 0 in
     pack-at (word-bits ws) k h (x / 2 ^ (8 * (k % 8)) % 256) (mod-lt (x / 2 ^ (8 * (k % 8))) (lit< tt))
-      (λ i l. sym (bit-mod (x / 2 ^ (8 * (k % 8))) 8 i l ∙ bit-shr x (8 * (k % 8)) i))
+    (λ i l. sym (bit-mod (x / 2 ^ (8 * (k % 8))) 8 i l ∙ bit-shr x (8 * (k % 8)) i))
 
 pub held-byte : (ws : List ℕ) → length ws ≡ 5 → (k : ℕ) → getD (held ws) k 0 ≡ getD ws (k / 8) 0 / 2 ^ (8 * (k % 8)) % 256
 held-byte ws n k =
     ⊎-elim (held-byte-in ws k)
-      (λ past.
-        let whole : length (held ws) ≡ 40 = held-state ws .whole in
-        getD-past (held ws) k 0 (omega arith)
-        ∙ sym (ap (λ x. x / 2 ^ (8 * (k % 8)) % 256) (getD-past ws (k / 8) 0 (omega arith)) ∙ ap (λ x. x % 256) (zero-div (2 ^ (8 * (k % 8))))))
-      (cases-lt k 40)
+    (λ past.
+    let whole : length (held ws) ≡ 40 = held-state ws .whole in
+    getD-past (held ws) k 0 (omega arith)
+    ∙ sym (ap (λ x. x / 2 ^ (8 * (k % 8)) % 256) (getD-past ws (k / 8) 0 (omega arith)) ∙ ap (λ x. x % 256) (zero-div (2 ^ (8 * (k % 8))))))
+    (cases-lt k 40)
 
 -- one byte written: y is the word that had it
 module _ (ws : List ℕ) (n : length ws ≡ 5) (k b y : ℕ) (hb : b < 256)
-  (here : (i : ℕ) → i < 8 → bit y (8 * (k % 8) + i) ≡ bit b i)
-  (there : (c : ℕ) → c < 64 → (c / 8 ≡ k % 8 → ⊥) → bit y c ≡ bit (getD ws (k / 8) 0) c) where
+    (here : (i : ℕ) → i < 8 → bit y (8 * (k % 8) + i) ≡ bit b i)
+    (there : (c : ℕ) → c < 64 → (c / 8 ≡ k % 8 → ⊥) → bit y c ≡ bit (getD ws (k / 8) 0) c) where
   set-in : k < 40 → held (set ws (k / 8) y) ≡ set (held ws) k b
   unfolding held
   set-in h =
       pack-set (word-bits ws) (word-bits (set ws (k / 8) y)) k b h hb
-        (λ i l. ap (λ x. bit x (8 * (k % 8) + i)) (getD-set-same ws (k / 8) y 0 (omega arith)) ∙ here i l)
-        (λ j c hj hc o. ⊎-elim
-          (λ (e : j ≡ k / 8).
-            ap (λ m. bit (getD (set ws (k / 8) y) m 0) c) e
-            ∙ ap (λ x. bit x c) (getD-set-same ws (k / 8) y 0 (omega arith))
-            ∙ there c hc (λ q. o (omega arith))
-            ∙ ap (λ m. bit (getD ws m 0) c) (sym e))
-          (λ e. ap (λ x. bit x c) (getD-set-other ws (k / 8) j y 0 e))
-          (cases-eq j (k / 8)))
+      (λ i l. ap (λ x. bit x (8 * (k % 8) + i)) (getD-set-same ws (k / 8) y 0 (omega arith)) ∙ here i l)
+      (λ j c hj hc o. ⊎-elim
+      (λ (e : j ≡ k / 8).
+      ap (λ m. bit (getD (set ws (k / 8) y) m 0) c) e
+      ∙ ap (λ x. bit x c) (getD-set-same ws (k / 8) y 0 (omega arith))
+      ∙ there c hc (λ q. o (omega arith))
+      ∙ ap (λ m. bit (getD ws m 0) c) (sym e))
+      (λ e. ap (λ x. bit x c) (getD-set-other ws (k / 8) j y 0 e))
+      (cases-eq j (k / 8)))
 
   pub held-set : held (set ws (k / 8) y) ≡ set (held ws) k b
   held-set =
       ⊎-elim set-in
-        (λ past.
-          let whole : length (held ws) ≡ 40 = held-state ws .whole in
-          ap held (set-past ws (k / 8) y (omega arith)) ∙ sym (set-past (held ws) k b (omega arith)))
-        (cases-lt k 40)
+      (λ past.
+      let whole : length (held ws) ≡ 40 = held-state ws .whole in
+      ap held (set-past ws (k / 8) y (omega arith)) ∙ sym (set-past (held ws) k b (omega arith)))
+      (cases-lt k 40)

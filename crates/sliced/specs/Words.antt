@@ -6,14 +6,18 @@ use lib.ListN.{getD}
 use Rattle.sycon.specs.Permutation.{Bits, bit, pack}
 use Rattle.sliced.specs.declared.Sliced.{Sliced}
 
-abbrev pub words : Sliced → List ℕ
-words x = x .a0 ∷ x .a1 ∷ x .a2 ∷ x .a3 ∷ x .a4 ∷ []
-
 abbrev pub word-bits : List ℕ → Bits
 word-bits ws j c = bit (getD ws j 0) c
 
 unfoldable pub held : List ℕ → List ℕ
 held ws = pack (word-bits ws)
+
+abbrev pub words : Sliced → List ℕ
+words x = x .a0 ∷ x .a1 ∷ x .a2 ∷ x .a3 ∷ x .a4 ∷ []
+
+-- the state that an engine means
+abbrev pub meant : Sliced → List ℕ
+meant x = held (words x)
 
 -- the word x is word j of the bits f
 abbrev pub Row : ℕ → Bits → ℕ → Type 0

@@ -1,9 +1,9 @@
 //! An engine of five words, which takes the steps of a round on all 64 columns at once.
 
 ghost use Prim.Native.Nat.{ℕ, _<_, _≤_, min};
-ghost use Rattle.sliced.specs.Words.{Rows, held, words};
+ghost use Rattle.sliced.specs.Words.{Rows, held, meant, words};
 ghost use Rattle.sycon.specs.Permutation.{added, arranged, bits, diffused, permuted, substituted};
-ghost use Rattle.sycon.specs.Steps.{on-state};
+ghost use Rattle.sycon.specs.Steps.{four-steps, on-state};
 ghost use lib.ListN.{getD, replicate, set};
 ghost use mathlib.Core.List.{[], _∷_};
 ghost use mathlib.Core.Path.{_≡_};
@@ -23,7 +23,7 @@ pub struct Sliced {
 }
 
 pub impl Engine for Sliced as SlicedEngine {
-    ghost state = { λ x. held (words x) };
+    ghost state = { meant };
 
     fn load(&mut self, bytes: &[u8; 40]) {
         *self = Sliced::of(bytes);
@@ -45,14 +45,14 @@ pub impl Engine for Sliced as SlicedEngine {
 impl Sliced {
     /// All 40 bytes are zero.
     pub fn new() -> Self
-        ensures { λ r. ⌜ held (words r) ≡ replicate 40 0 ⌝ }
+        ensures { λ r. ⌜ meant r ≡ replicate 40 0 ⌝ }
     {
         Self::of(&[0; 40])
     }
 
     // The engine that holds these bytes.
     fn of(bytes: &[u8; 40]) -> Self
-        ensures { λ r. ⌜ held (words r) ≡ now (bytes .entry) ⌝ }
+        ensures { λ r. ⌜ meant r ≡ now (bytes .entry) ⌝ }
     {
         Self::rows(bytes)
     }
@@ -97,13 +97,13 @@ impl Sliced {
     }
 
     fn read(&self, k: usize) -> u8
-        ensures { λ r. ⌜ r ≡ getD (held (words (now (self .entry)))) k 0 ⌝ }
+        ensures { λ r. ⌜ r ≡ getD (meant (now (self .entry))) k 0 ⌝ }
     {
         row::byte(self.word(k / 8), k % 8)
     }
 
     fn write(&mut self, k: usize, b: u8)
-        ensures { λ _. ⌜ held (words (now (self .exit))) ≡ set (held (words (now (self .entry)))) k b ⌝ }
+        ensures { λ _. ⌜ meant (now (self .exit)) ≡ set (meant (now (self .entry))) k b ⌝ }
     {
         let j = k / 8;
         self.set_word(j, row::with_byte(self.word(j), k % 8, b));
@@ -112,7 +112,7 @@ impl Sliced {
     // The rounds 0 to n - 1.
     fn run(&mut self, n: usize)
         requires { ⌜ n ≤ 14 ⌝ }
-        ensures { λ _. ⌜ ((r : ℕ) → n ≡ min r 14 → held (words (now (self .exit))) ≡ permuted r (held (words (now (self .entry))))) ⌝ }
+        ensures { λ _. ⌜ ((r : ℕ) → n ≡ min r 14 → meant (now (self .exit)) ≡ permuted r (meant (now (self .entry)))) ⌝ }
     {
         for i in 0..n {
             self.round(i);
@@ -121,7 +121,7 @@ impl Sliced {
 
     fn round(&mut self, i: usize)
         requires { ⌜ i < 14 ⌝ }
-        ensures { λ _. ⌜ held (words (now (self .exit))) ≡ on-state arranged (on-state (added i) (on-state diffused (on-state substituted (held (words (now (self .entry))))))) ⌝ }
+        ensures { λ _. ⌜ meant (now (self .exit)) ≡ four-steps i (meant (now (self .entry))) ⌝ }
     {
         self.substitute();
         self.diffuse();
@@ -130,13 +130,13 @@ impl Sliced {
     }
 
     fn substitute(&mut self)
-        ensures { λ _. ⌜ held (words (now (self .exit))) ≡ on-state substituted (held (words (now (self .entry)))) ⌝ }
+        ensures { λ _. ⌜ meant (now (self .exit)) ≡ on-state substituted (meant (now (self .entry))) ⌝ }
     {
         *self = sbox(self.a0, self.a1, self.a2, self.a3, self.a4);
     }
 
     fn diffuse(&mut self)
-        ensures { λ _. ⌜ held (words (now (self .exit))) ≡ on-state diffused (held (words (now (self .entry)))) ⌝ }
+        ensures { λ _. ⌜ meant (now (self .exit)) ≡ on-state diffused (meant (now (self .entry))) ⌝ }
     {
         *self = Sliced {
             a0: row::diffuse(self.a0, 0),
@@ -149,13 +149,13 @@ impl Sliced {
 
     fn add_constant(&mut self, i: usize)
         requires { ⌜ i < 14 ⌝ }
-        ensures { λ _. ⌜ held (words (now (self .exit))) ≡ on-state (added i) (held (words (now (self .entry)))) ⌝ }
+        ensures { λ _. ⌜ meant (now (self .exit)) ≡ on-state (added i) (meant (now (self .entry))) ⌝ }
     {
         self.a2 ^= row::constant(i);
     }
 
     fn arrange(&mut self)
-        ensures { λ _. ⌜ held (words (now (self .exit))) ≡ on-state arranged (held (words (now (self .entry)))) ⌝ }
+        ensures { λ _. ⌜ meant (now (self .exit)) ≡ on-state arranged (meant (now (self .entry))) ⌝ }
     {
         *self = Sliced {
             a0: row::gather(self.a0, &row::ARRANGEMENT[0]),
@@ -169,7 +169,7 @@ impl Sliced {
 
 // The S-box on all columns.
 fn sbox(a0: u64, a1: u64, a2: u64, a3: u64, a4: u64) -> Sliced
-    ensures { λ r. ⌜ held (words r) ≡ on-state substituted (held (a0 ∷ a1 ∷ a2 ∷ a3 ∷ a4 ∷ [])) ⌝ }
+    ensures { λ r. ⌜ meant r ≡ on-state substituted (held (a0 ∷ a1 ∷ a2 ∷ a3 ∷ a4 ∷ [])) ⌝ }
 {
     let t0 = a2 ^ a4;
     let t1 = t0 ^ a1;

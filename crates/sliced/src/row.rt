@@ -2,7 +2,7 @@
 
 ghost use Prim.Native.Nat.{ℕ, _+_, _*_, _/_, _%_, _^_, _<_};
 ghost use Rattle.sliced.specs.Rows.{gathered, spread};
-ghost use Rattle.sycon.specs.Permutation.{bit, bits, constant-bytes, first-rotation, of-word, origin, second-rotation};
+ghost use Rattle.sycon.specs.Permutation.{bit, bits, constant-bytes, first-rotation, of-word, second-rotation};
 ghost use lib.ListN.{getD};
 ghost use mathlib.Core.Path.{_≡_};
 

@@ -1,7 +1,7 @@
 -- The bits of a number: of sums, shifts and bit operations.
-use mathlib.Core.Path.{_≡_, refl, sym, ap, ap₂, _∙_}
+use mathlib.Core.Path.{_≡_, sym, ap, ap₂, _∙_}
 use mathlib.Core.Logic.{⊎-elim}
-use Prim.Native.Nat.{ℕ, zero, suc, _+_, _-_, _*_, _/_, _%_, _^_, _≤_, _<_, zero-le}
+use Prim.Native.Nat.{ℕ, suc, _+_, _-_, _*_, _/_, _%_, _^_, _≤_, _<_, zero-le}
 use native.Mathlib.Nat.{mod-lt, div-eq-of-lt, mul-mod-left, pow-suc, mul-one, mul-assoc, add-mul, lt-of-lt-of-le, eq-zero-or-pos}
 use native.Mathlib.Omega.{arith}
 use lib.Bits.{bitAnd, bitOr, bitXor, and-shr, or-shr, xor-shr, and-mod, or-mod, xor-mod, or-zero-r, or-self}
@@ -47,8 +47,10 @@ bit-shl x j k = ap (λ n. n % 2) (sym (shr-shr (x * 2 ^ j) j k) ∙ ap (λ n. n 
 bit-shl-under : (x k d : ℕ) → bit (x * 2 ^ (suc d + k)) k ≡ 0
 unfolding bit
 bit-shl-under x k d =
-    ap (λ n. n % 2)
-    (ap (λ n. x * n / 2 ^ k) (pow-add 2 (suc d) k) ∙ ap (λ n. n / 2 ^ k) (sym (mul-assoc x (2 ^ suc d) (2 ^ k))) ∙ shl-shr (x * 2 ^ suc d) k)
+    let split : x * 2 ^ (suc d + k) ≡ x * 2 ^ suc d * 2 ^ k =
+    ap (λ n. x * n) (pow-add 2 (suc d) k) ∙ sym (mul-assoc x (2 ^ suc d) (2 ^ k))
+    in
+    ap (λ n. n % 2) (ap (λ n. n / 2 ^ k) split ∙ shl-shr (x * 2 ^ suc d) k)
     ∙ ap (λ n. x * n % 2) (pow-suc 2 d) ∙ ap (λ n. n % 2) (sym (mul-assoc x (2 ^ d) 2)) ∙ mul-mod-left (x * 2 ^ d) 2
 
 pub bit-below : (x j k : ℕ) → k < j → bit (x * 2 ^ j) k ≡ 0
@@ -110,11 +112,8 @@ pub bit-rotate : (x k c : ℕ) → x < 2 ^ 64 → c < 64
     → bit (bitOr (x / 2 ^ (k % 64)) ((x * 2 ^ ((64 - k % 64) % 64)) % 2 ^ 64)) c ≡ bit x ((c + k) % 64)
 bit-rotate x k c h l =
     let by : ℕ = k % 64 in
-    let whole : bit (bitOr (x / 2 ^ by) ((x * 2 ^ ((64 - by) % 64)) % 2 ^ 64)) c ≡ bitOr (bit x (by + c)) (bit (x * 2 ^ ((64 - by) % 64)) c) =
-    bit-or (x / 2 ^ by) ((x * 2 ^ ((64 - by) % 64)) % 2 ^ 64) c
-    ∙ ap₂ bitOr (bit-shr x by c) (bit-mod (x * 2 ^ ((64 - by) % 64)) 64 c l)
-    in
-    whole
+    let up : ℕ = x * 2 ^ ((64 - by) % 64) in
+    bit-or (x / 2 ^ by) (up % 2 ^ 64) c ∙ ap₂ bitOr (bit-shr x by c) (bit-mod up 64 c l)
     ∙ ⊎-elim
     (λ (none : by ≡ 0).
     let nothing : (64 - by) % 64 ≡ 0 = omega arith in

@@ -3,7 +3,7 @@ use mathlib.Core.Path.{_≡_, refl, sym, ap, ap₂, _∙_}
 use mathlib.Core.List.{List}
 use mathlib.Core.Logic.{⊎-elim}
 use Prim.Native.Nat.{ℕ, zero, suc, _+_, _*_, _/_, _%_, _^_, _<_}
-use native.Mathlib.Nat.{mod-one, div-one, pow-suc, mod-lt, mod-eq-of-lt, le-of-suc-le-suc, not-suc-le-zero}
+use native.Mathlib.Nat.{mod-one, div-one, pow-suc, mod-eq-of-lt, le-of-suc-le-suc, not-suc-le-zero}
 use native.Mathlib.Numerals.{one-add, add-one}
 use native.Mathlib.Omega.{arith}
 use lib.Dec.{lit<}
@@ -15,7 +15,7 @@ use Rattle.std.proofs.shelf.Lists.{ext-getD, length-set, getD-set-same, getD-se
 use Rattle.std.proofs.shelf.Tests.{cases-eq}
 use Rattle.sycon.specs.Permutation.{State, Bits, bit, bits, packed, pack}
 use Rattle.sycon.specs.Steps.{Same}
-use Rattle.sycon.proofs.Digits.{bit-digit, bit-low, bit-high, bit-shr}
+use Rattle.sycon.proofs.Digits.{bit-low, bit-high, bit-shr}
 
 -- the number that has n given digits, the lowest first
 pub number : ℕ → (ℕ → ℕ) → ℕ
@@ -106,8 +106,9 @@ pack-same f g e =
 pub bits-pack : (f : Bits) → ((j c : ℕ) → f j c < 2) → Same (bits (pack f)) f
 unfolding bits
 bits-pack f d j c hj hc =
-    ap (λ b. bit b (c % 8)) (getD-pack f (8 * j + c / 8) (omega arith))
-    ∙ bit-number 8 (λ i. f ((8 * j + c / 8) / 8) (8 * ((8 * j + c / 8) % 8) + i)) (λ i. d ((8 * j + c / 8) / 8) (8 * ((8 * j + c / 8) % 8) + i)) (c % 8) (omega arith)
+    let k : ℕ = 8 * j + c / 8 in
+    ap (λ b. bit b (c % 8)) (getD-pack f k (omega arith))
+    ∙ bit-number 8 (λ i. f (k / 8) (8 * (k % 8) + i)) (λ i. d (k / 8) (8 * (k % 8) + i)) (c % 8) (omega arith)
     ∙ ap₂ f (omega arith) (omega arith)
 
 pub state-pack : (f : Bits) → ((j c : ℕ) → f j c < 2) → State (pack f)

@@ -1,14 +1,14 @@
 -- The steps of a round as maps of states.
-use mathlib.Core.Path.{_≡_, refl, sym, ap, ap₂, _∙_}
+use mathlib.Core.Path.{_≡_, sym, ap, ap₂, _∙_}
 use mathlib.Core.List.{List, [], _∷_}
 use Prim.Native.Nat.{ℕ, _+_, _*_, _/_, _%_, _<_}
 use native.Mathlib.Nat.{mod-lt}
-use native.Mathlib.Omega.{arith}
 use lib.Bits.{bitXor, xor-lt}
 use lib.Dec.{ltb, ltb→lt, lit<}
 use lib.ListN.{getD}
-use Rattle.sycon.specs.Permutation.{Bits, bit, bits, pack, of-word, column, substituted, diffused, round-constant, added, turned, origin, arranged, round}
-use Rattle.sycon.specs.Steps.{Same, on-state}
+use Rattle.sycon.specs.Permutation.{Bits, bit, bits, pack, of-word, column, substituted, diffused, round-constant, added}
+use Rattle.sycon.specs.Permutation.{turned, origin, arranged, round}
+use Rattle.sycon.specs.Steps.{Same, on-state, four-steps}
 use Rattle.sycon.proofs.Digits.{bit-digit}
 use Rattle.sycon.proofs.Packing.{pack-same, bits-pack}
 use Rattle.sycon.proofs.Tests.{every, at}
@@ -73,9 +73,7 @@ pub respects-arranged : Respects arranged
 unfolding arranged
 respects-arranged f g e j c hj hc = e j (origin j c) hj (origin-below j c hj hc)
 
--- a round is its four steps, one after the other
-pub round-steps : (i : ℕ) (s : List ℕ)
-    → on-state arranged (on-state (added i) (on-state diffused (on-state substituted s))) ≡ round i s
+pub round-steps : (i : ℕ) (s : List ℕ) → four-steps i s ≡ round i s
 unfolding round on-state
 round-steps i s =
     let f : Bits = substituted (bits s) in

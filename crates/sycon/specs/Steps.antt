@@ -2,7 +2,7 @@
 use mathlib.Core.Path.{_≡_}
 use mathlib.Core.List.{List}
 use Prim.Native.Nat.{ℕ, _<_}
-use Rattle.sycon.specs.Permutation.{Bits, bits, pack}
+use Rattle.sycon.specs.Permutation.{Bits, bits, pack, substituted, diffused, added, arranged}
 
 -- the same digit in each column of each word
 abbrev pub Same : Bits → Bits → Type 0
@@ -10,3 +10,7 @@ Same f g = (j c : ℕ) → j < 5 → c < 64 → f j c ≡ g j c
 
 unfoldable pub on-state : (Bits → Bits) → List ℕ → List ℕ
 on-state step s = pack (step (bits s))
+
+-- the four steps of round i, one after the other
+abbrev pub four-steps : ℕ → List ℕ → List ℕ
+four-steps i s = on-state arranged (on-state (added i) (on-state diffused (on-state substituted s)))

@@ -7,5 +7,7 @@ use Rattle.sliced.proofs.sbox.Needs as need
 
 pub returns : need.returns
 returns c =
-    held-step substituted respects-substituted (c .args .a0 ∷ c .args .a1 ∷ c .args .a2 ∷ c .args .a3 ∷ c .args .a4 ∷ []) _
-      (sliced-sbox (c .args .a0) (c .args .a1) (c .args .a2) (c .args .a3) (c .args .a4) (c .fits .a0 .fits) (c .fits .a1 .fits) (c .fits .a2 .fits) (c .fits .a3 .fits) (c .fits .a4 .fits))
+    let x = c .args in
+    let h = c .fits in
+    held-step substituted respects-substituted (x .a0 ∷ x .a1 ∷ x .a2 ∷ x .a3 ∷ x .a4 ∷ []) _
+    (sliced-sbox (x .a0) (x .a1) (x .a2) (x .a3) (x .a4) (h .a0 .fits) (h .a1 .fits) (h .a2 .fits) (h .a3 .fits) (h .a4 .fits))

@@ -15,11 +15,11 @@ pub returns : need.returns
 unfolding added round-constant
 returns c =
     held-step (added (c .args .i)) (respects-added (c .args .i)) (words (c .args .self .now)) _
-      (rows-same _ (added (c .args .i) (word-bits (words (c .args .self .now))))
-        ( λ k h. untouched (c .args .self .now .a0) k
-        , λ k h. untouched (c .args .self .now .a1) k
-        , λ k h. bit-xor (c .args .self .now .a2) (c .constant .result) k
-            ∙ ap (λ n. bitXor (bit (c .args .self .now .a2) k) (bit n k)) (c .constant .ensures)
-        , λ k h. untouched (c .args .self .now .a3) k
-        , λ k h. untouched (c .args .self .now .a4) k
-        ))
+    (rows-same _ (added (c .args .i) (word-bits (words (c .args .self .now)))) (
+      λ k h. untouched (c .args .self .now .a0) k,
+      λ k h. untouched (c .args .self .now .a1) k,
+      λ k h. bit-xor (c .args .self .now .a2) (c .constant .result) k
+          ∙ ap (λ n. bitXor (bit (c .args .self .now .a2) k) (bit n k)) (c .constant .ensures),
+      λ k h. untouched (c .args .self .now .a3) k,
+      λ k h. untouched (c .args .self .now .a4) k,
+    ))

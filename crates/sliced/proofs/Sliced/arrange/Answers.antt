@@ -10,10 +10,10 @@ unfolding bit origin turned arranged
 returns c =
     let x = c .args .self .now in
     held-step arranged respects-arranged (words x) _
-      (rows-same _ (arranged (word-bits (words x)))
-        ( gathered-along (origin 0) (x .a0) (c .gather .result) _ (c .gather .ensures) tt
-        , gathered-along (origin 1) (x .a1) (c .gather-2 .result) _ (c .gather-2 .ensures) tt
-        , gathered-along (origin 2) (x .a2) (c .gather-3 .result) _ (c .gather-3 .ensures) tt
-        , gathered-along (origin 3) (x .a3) (c .gather-4 .result) _ (c .gather-4 .ensures) tt
-        , gathered-along (origin 4) (x .a4) (c .gather-5 .result) _ (c .gather-5 .ensures) tt
-        ))
+    (rows-same _ (arranged (word-bits (words x))) (
+      gathered-along (origin 0) (x .a0) (c .gather .result) _ (c .gather .ensures) tt,
+      gathered-along (origin 1) (x .a1) (c .gather-2 .result) _ (c .gather-2 .ensures) tt,
+      gathered-along (origin 2) (x .a2) (c .gather-3 .result) _ (c .gather-3 .ensures) tt,
+      gathered-along (origin 3) (x .a3) (c .gather-4 .result) _ (c .gather-4 .ensures) tt,
+      gathered-along (origin 4) (x .a4) (c .gather-5 .result) _ (c .gather-5 .ensures) tt,
+    ))

@@ -8,5 +8,5 @@ pub returns : need.returns
 unfolding diffused
 returns c =
     held-step diffused respects-diffused (words (c .args .self .now)) _
-      (rows-same _ (diffused (word-bits (words (c .args .self .now))))
-        (c .diffuse .ensures, c .diffuse-2 .ensures, c .diffuse-3 .ensures, c .diffuse-4 .ensures, c .diffuse-5 .ensures))
+    (rows-same _ (diffused (word-bits (words (c .args .self .now))))
+    (c .diffuse .ensures, c .diffuse-2 .ensures, c .diffuse-3 .ensures, c .diffuse-4 .ensures, c .diffuse-5 .ensures))

@@ -8,5 +8,5 @@ pub returns : need.returns
 returns c =
     ap held (c .set-word .ensures)
     ∙ held-set (words (c .args .self .now)) refl (c .args .k) (c .args .b) (c .with-byte .result) (c .fits .b .fits)
-        (c .with-byte .ensures .here)
-        (λ m h o. c .with-byte .ensures .there m h o ∙ ap (λ x. bit x m) (c .word .ensures))
+    (c .with-byte .ensures .here)
+    (λ m h o. c .with-byte .ensures .there m h o ∙ ap (λ x. bit x m) (c .word .ensures))

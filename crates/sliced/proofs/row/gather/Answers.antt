@@ -19,10 +19,10 @@ loop-k-again c k h =
     let mask = getD terms i (0, 0) .1 in
     bit-xor (c .loop-k .r) (bitAnd (c .rotate-right .result) mask) k
     ∙ ap₂ bitXor (c .loop-k .inv k h)
-        (bit-and (c .rotate-right .result) mask k
-          ∙ ap (λ d. bitAnd d (bit mask k))
-              (ap (λ n. bit n k) (c .rotate-right .ensures)
-                ∙ bit-rotate (c .args .x) (getD terms i (0, 0) .0) k (c .fits .x .fits) h))
+    (bit-and (c .rotate-right .result) mask k
+    ∙ ap (λ d. bitAnd d (bit mask k))
+    (ap (λ n. bit n k) (c .rotate-right .ensures)
+    ∙ bit-rotate (c .args .x) (getD terms i (0, 0) .0) k (c .fits .x .fits) h))
     ∙ sym (gathered-more (bit (c .args .x)) k terms i (c .loop-k-test .taken))
 
 pub returns : need.returns

@@ -7,7 +7,8 @@ use native.Mathlib.Omega.{arith}
 use borrow.Author.Count.{below-more}
 use borrow.Rule.Slice.PartMut.{putMid}
 use lib.ListN.{length, getD, set, take, drop, length-drop, length-append}
-use Rattle.std.proofs.shelf.Lists.{getD-set-same, getD-set-other, ext-getD, getD-take, getD-drop, length-take, take-more-set, drop-set-lt, take-append-drop, drop-drop, take-at, drop-at, take-all, drop-all, append-nil, append-assoc}
+use Rattle.std.proofs.shelf.Lists.{append-assoc, append-nil, drop-all, drop-at, drop-drop, drop-set-lt, ext-getD, getD-drop}
+use Rattle.std.proofs.shelf.Lists.{getD-set-other, getD-set-same, getD-take, length-take, take-all, take-append-drop, take-at, take-more-set}
 use Rattle.std.proofs.shelf.Tests.{cases-lt}
 use Rattle.sealing.specs.Sponge.{with-part}
 
@@ -16,7 +17,8 @@ put-part a xs s ys e = let k : (a + length xs) - a ≡ length xs = omega arith i
 
 pub put-behind : (p : ℕ) (a xs b : List ℕ) → length a ≡ p → with-part p xs (a ++ b) ≡ a ++ (xs ++ drop (length xs) b)
 put-behind p a xs b h =
-    let e : drop (p + length xs) (a ++ b) ≡ drop (length xs) b = sym (drop-drop (length xs) p (a ++ b)) ∙ ap (drop (length xs)) (drop-at a b p h) in
+    let e : drop (p + length xs) (a ++ b) ≡ drop (length xs) b =
+    sym (drop-drop (length xs) p (a ++ b)) ∙ ap (drop (length xs)) (drop-at a b p h) in
     rw (take-at a b p h, e)
 
 -- three parts, one behind the other, fill the whole
@@ -35,10 +37,10 @@ three-parts k n v z hk hn hv hz =
 pub key-rest : (b e : ℕ) (xs : List ℕ) → length xs ≡ 17 → b ≤ 12 → e ≡ min 17 (2 * b) → take (e - b) (drop b xs) ≡ take b (drop b xs)
 key-rest b e xs l h m =
     ⊎-elim
-      (λ (s : 2 * b < 17). let n : e - b ≡ b = omega arith in ap (λ k. take k (drop b xs)) n)
-      (λ (s : 17 ≤ 2 * b).
-        take-all (e - b) (drop b xs) (simp length-drop (omega arith)) ∙ sym (take-all b (drop b xs) (simp length-drop (omega arith))))
-      (cases-lt (2 * b) 17)
+    (λ (s : 2 * b < 17). let n : e - b ≡ b = omega arith in ap (λ k. take k (drop b xs)) n)
+    (λ (s : 17 ≤ 2 * b).
+    take-all (e - b) (drop b xs) (simp length-drop (omega arith)) ∙ sym (take-all b (drop b xs) (simp length-drop (omega arith))))
+    (cases-lt (2 * b) 17)
 
 -- both blocks as the code cuts them
 pub key-blocks : (b e : ℕ) (xs : List ℕ) → length xs ≡ 17 → b ≤ 12 → e ≡ min 17 (2 * b)
@@ -51,13 +53,13 @@ pub read-off : (n at : ℕ) (s xs : List ℕ) → at + n ≤ length s → length
 read-off n at s xs hs hx h =
     let l : length xs ≡ length (take n (drop at s)) = simp (length-take, length-drop) (omega arith) in
     ext-getD 0 xs (take n (drop at s)) l
-      (λ i m. let b : i < n = omega arith in h i b ∙ sym (getD-take n (drop at s) i 0 b ∙ getD-drop at s i 0))
+    (λ i m. let b : i < n = omega arith in h i b ∙ sym (getD-take n (drop at s) i 0 b ∙ getD-drop at s i 0))
 
 pub read-more : (at i b : ℕ) (s xs : List ℕ) → i < length xs → b ≡ getD s (at + i) 0
     → ((k : ℕ) → k < i → getD xs k 0 ≡ getD s (at + k) 0) → (k : ℕ) → k < i + 1 → getD (set xs i b) k 0 ≡ getD s (at + k) 0
 read-more at i b s xs h e below =
     below-more (λ k. getD (set xs i b) k 0 ≡ getD s (at + k) 0) i
-      (λ k l. let ne : k ≢ i = omega arith in getD-set-other xs i k b 0 ne ∙ below k l) (getD-set-same xs i b 0 h ∙ e)
+    (λ k l. let ne : k ≢ i = omega arith in getD-set-other xs i k b 0 ne ∙ below k l) (getD-set-same xs i b 0 h ∙ e)
 
 -- a list written from its front: one byte more, and the whole
 module _ (i : ℕ) (out old : List ℕ) where

@@ -25,17 +25,17 @@ abbrev pub sealing : Setting → List ℕ → List ℕ → List ℕ → List ℕ
     → Answer × List ℕ × List ℕ × List ℕ
 sealing t key nonce label text place seal state =
     cond (measured (length key) (length nonce) (length seal) (length text) (length place))
-      (Ok tt, sealed-bytes t key nonce label text ++ drop (length text) place, seal-of t key nonce label text, replicate 40 0)
-      (Err Measure, place, seal, state)
+    (Ok tt, sealed-bytes t key nonce label text ++ drop (length text) place, seal-of t key nonce label text, replicate 40 0)
+    (Err Measure, place, seal, state)
 
 -- open: the answer, the place of the text, the engine
 abbrev pub opening : Setting → List ℕ → List ℕ → List ℕ → List ℕ → List ℕ → List ℕ → List ℕ → Answer × List ℕ × List ℕ
 opening t key nonce label sealed seal place state =
     cond (measured (length key) (length nonce) (length seal) (length sealed) (length place))
-      (cond (sameBytes seal (seal-of t key nonce label (opened-bytes t key nonce label sealed)))
-        (Ok tt, opened-bytes t key nonce label sealed ++ drop (length sealed) place, replicate 40 0)
-        (Err BrokenSeal, replicate (length sealed) 0 ++ drop (length sealed) place, replicate 40 0))
-      (Err Measure, place, state)
+    (cond (sameBytes seal (seal-of t key nonce label (opened-bytes t key nonce label sealed)))
+    (Ok tt, opened-bytes t key nonce label sealed ++ drop (length sealed) place, replicate 40 0)
+    (Err BrokenSeal, replicate (length sealed) 0 ++ drop (length sealed) place, replicate 40 0))
+    (Err Measure, place, state)
 
 -- digest: the answer, the place of the digest, the engine
 abbrev pub digesting : List ℕ → List ℕ → List ℕ → Answer × List ℕ × List ℕ

@@ -14,7 +14,9 @@ pub trait Rate {
     law high: { setting .block ≤ 12 };
 
     const BLOCK: usize;
+
     const ROUNDS: usize;
+
     const INITIAL_VECTOR: u64;
 
     fn block_len() -> usize
@@ -35,7 +37,9 @@ pub impl Rate for Rate64 as Rate64Rate {
     ghost setting = { narrow };
 
     const BLOCK: usize = 8;
+
     const ROUNDS: usize = 7;
+
     const INITIAL_VECTOR: u64 = 0;
 
     fn block_len() -> usize {
@@ -58,7 +62,9 @@ pub impl Rate for Rate96 as Rate96Rate {
     ghost setting = { wide };
 
     const BLOCK: usize = 12;
+
     const ROUNDS: usize = 9;
+
     const INITIAL_VECTOR: u64 = 0x5980A92AFC5D9D2C;
 
     fn block_len() -> usize {

@@ -3,7 +3,8 @@
 ghost use Prim.Native.Nat.{_+_, _<_, _≤_};
 ghost use Rattle.sealing.specs.Calls.{measured};
 ghost use Rattle.sealing.specs.Sealing.{keyed, started, labelled, ready};
-ghost use Rattle.sealing.specs.Sponge.{with-part, with-byte, with-bytes, with-domain, domain-byte, absorbed, next, fed, place-after, state-after, ended, message};
+ghost use Rattle.sealing.specs.Sponge.{with-part, with-byte, with-bytes, with-domain, domain-byte, absorbed};
+ghost use Rattle.sealing.specs.Sponge.{next, fed, place-after, state-after, ended, message};
 ghost use lib.ListN.{length, take, drop, replicate};
 ghost use mathlib.Core.List.{[], _∷_, _++_};
 ghost use mathlib.Core.Path.{_≡_};
@@ -16,14 +17,14 @@ pub mod seal;
 
 // XORs `x` into byte `place` of the state.
 fn add_byte<E: Engine>(engine: &mut E, place: usize, x: u8)
-    ensures { λ _. ⌜ E·Engine .state (now (engine .exit)) ≡ with-byte place x (E·Engine .state (now (engine .entry))) ⌝ }
+    ensures { λ _. ⌜ state (now (engine .exit)) ≡ with-byte place x (state (now (engine .entry))) ⌝ }
 {
     let old = engine.byte(place);
     engine.set_byte(place, old ^ x);
 }
 
 fn add_bytes<E: Engine>(engine: &mut E, bytes: &[u8])
-    ensures { λ _. ⌜ E·Engine .state (now (engine .exit)) ≡ with-bytes 0 (now (bytes .entry)) (E·Engine .state (now (engine .entry))) ⌝ }
+    ensures { λ _. ⌜ state (now (engine .exit)) ≡ with-bytes 0 (now (bytes .entry)) (state (now (engine .entry))) ⌝ }
 {
     for (i, x) in bytes.iter().enumerate() {
         add_byte(engine, i, *x);
@@ -38,14 +39,16 @@ fn domain_byte(domain: u8) -> u8
 }
 
 fn add_domain<E: Engine>(engine: &mut E, domain: u8)
-    ensures { λ _. ⌜ E·Engine .state (now (engine .exit)) ≡ with-domain domain (E·Engine .state (now (engine .entry))) ⌝ }
+    ensures { λ _. ⌜ state (now (engine .exit)) ≡ with-domain domain (state (now (engine .entry))) ⌝ }
 {
     add_byte(engine, 39, domain_byte(domain));
 }
 
-// A block of its own, at most as long as the state.
-fn absorb<E: Engine>(engine: &mut E, block: &[u8], domain: u8, rounds: usize)
-    ensures { λ _. ⌜ E·Engine .state (now (engine .exit)) ≡ absorbed rounds (now (block .entry)) domain (E·Engine .state (now (engine .entry))) ⌝ }
+/// Absorbs a block of its own: XORs it into the first bytes of the state and the domain into the last three bits, and
+/// permutes. Sealing, opening and digest are made of these; bytes past the state's 40 go nowhere.
+pub fn absorb<E: Engine>(engine: &mut E, block: &[u8], domain: u8, rounds: usize)
+    ensures { λ _. ⌜ state (now (engine .exit))
+        ≡ absorbed rounds (now (block .entry)) domain (state (now (engine .entry))) ⌝ }
 {
     add_bytes(engine, block);
     add_domain(engine, domain);
@@ -54,10 +57,10 @@ fn absorb<E: Engine>(engine: &mut E, block: &[u8], domain: u8, rounds: usize)
 
 // One byte more at `place`; gives the place of the next.
 fn feed<R: Rate, E: Engine>(engine: &mut E, place: usize, x: u8, domain: u8) -> usize
-    requires { ⌜ place < R·Rate .setting .block ⌝ }
-    ensures place { λ r. ⌜ r ≡ next (R·Rate .setting) place ⌝ }
-    ensures within { λ r. ⌜ r < R·Rate .setting .block ⌝ }
-    ensures state { λ _. ⌜ E·Engine .state (now (engine .exit)) ≡ fed (R·Rate .setting) domain place x (E·Engine .state (now (engine .entry))) ⌝ }
+    requires { ⌜ place < setting .block ⌝ }
+    ensures place { λ r. ⌜ r ≡ next setting place ⌝ }
+    ensures within { λ r. ⌜ r < setting .block ⌝ }
+    ensures state { λ _. ⌜ state (now (engine .exit)) ≡ fed setting domain place x (state (now (engine .entry))) ⌝ }
 {
     add_byte(engine, place, x);
     if place + 1 == R::block_len() {
@@ -70,9 +73,10 @@ fn feed<R: Rate, E: Engine>(engine: &mut E, place: usize, x: u8, domain: u8) -> 
 }
 
 fn feed_all<R: Rate, E: Engine>(engine: &mut E, bytes: &[u8], domain: u8) -> usize
-    ensures place { λ r. ⌜ r ≡ place-after (R·Rate .setting) 0 (now (bytes .entry)) ⌝ }
-    ensures within { λ r. ⌜ r < R·Rate .setting .block ⌝ }
-    ensures state { λ _. ⌜ E·Engine .state (now (engine .exit)) ≡ state-after (R·Rate .setting) domain 0 (now (bytes .entry)) (E·Engine .state (now (engine .entry))) ⌝ }
+    ensures place { λ r. ⌜ r ≡ place-after setting 0 (now (bytes .entry)) ⌝ }
+    ensures within { λ r. ⌜ r < setting .block ⌝ }
+    ensures state { λ _. ⌜ state (now (engine .exit))
+        ≡ state-after setting domain 0 (now (bytes .entry)) (state (now (engine .entry))) ⌝ }
 {
     let mut place = 0;
     for x in bytes {
@@ -83,7 +87,7 @@ fn feed_all<R: Rate, E: Engine>(engine: &mut E, bytes: &[u8], domain: u8) -> usi
 
 // The padding and the last domain.
 fn end<R: Rate, E: Engine>(engine: &mut E, place: usize, domain: u8)
-    ensures { λ _. ⌜ E·Engine .state (now (engine .exit)) ≡ ended (R·Rate .setting) domain place (E·Engine .state (now (engine .entry))) ⌝ }
+    ensures { λ _. ⌜ state (now (engine .exit)) ≡ ended setting domain place (state (now (engine .entry))) ⌝ }
 {
     add_byte(engine, place, 1);
     add_domain(engine, domain);
@@ -91,7 +95,8 @@ fn end<R: Rate, E: Engine>(engine: &mut E, place: usize, domain: u8)
 }
 
 fn absorb_message<R: Rate, E: Engine>(engine: &mut E, bytes: &[u8], domain: u8, last: u8)
-    ensures { λ _. ⌜ E·Engine .state (now (engine .exit)) ≡ message (R·Rate .setting) domain last (now (bytes .entry)) (E·Engine .state (now (engine .entry))) ⌝ }
+    ensures { λ _. ⌜ state (now (engine .exit))
+        ≡ message setting domain last (now (bytes .entry)) (state (now (engine .entry))) ⌝ }
 {
     let place = feed_all::<R, E>(engine, bytes, domain);
     end::<R, E>(engine, place, last);
@@ -110,7 +115,8 @@ fn padded_key(key: &[u8]) -> [u8; 17]
 // Both key blocks. In blocks of 8 bytes the key leaves no room for the 1 bit.
 fn absorb_key<R: Rate, E: Engine>(engine: &mut E, key: &[u8], first: u8, second: u8)
     requires { ⌜ length (now key) ≡ 16 ⌝ }
-    ensures { λ _. ⌜ E·Engine .state (now (engine .exit)) ≡ keyed (R·Rate .setting) first second (now (key .entry)) (E·Engine .state (now (engine .entry))) ⌝ }
+    ensures { λ _. ⌜ state (now (engine .exit))
+        ≡ keyed setting first second (now (key .entry)) (state (now (engine .entry))) ⌝ }
 {
     let padded = padded_key(key);
     let block = R::block_len();
@@ -142,7 +148,7 @@ fn start_bytes(key: &[u8], nonce: &[u8], vector: &[u8]) -> [u8; 40]
 
 fn start<R: Rate, E: Engine>(engine: &mut E, key: &[u8], nonce: &[u8])
     requires { ⌜ length (now key) ≡ 16 ⌝ ∗ ⌜ length (now nonce) ≡ 16 ⌝ }
-    ensures { λ _. ⌜ E·Engine .state (now (engine .exit)) ≡ started (R·Rate .setting) (now (key .entry)) (now (nonce .entry)) ⌝ }
+    ensures { λ _. ⌜ state (now (engine .exit)) ≡ started setting (now (key .entry)) (now (nonce .entry)) ⌝ }
 {
     let vector = R::vector();
     engine.load(&start_bytes(key, nonce, &vector));
@@ -151,7 +157,7 @@ fn start<R: Rate, E: Engine>(engine: &mut E, key: &[u8], nonce: &[u8])
 }
 
 fn absorb_label<R: Rate, E: Engine>(engine: &mut E, label: &[u8])
-    ensures { λ _. ⌜ E·Engine .state (now (engine .exit)) ≡ labelled (R·Rate .setting) (now (label .entry)) (E·Engine .state (now (engine .entry))) ⌝ }
+    ensures { λ _. ⌜ state (now (engine .exit)) ≡ labelled setting (now (label .entry)) (state (now (engine .entry))) ⌝ }
 {
     if !label.is_empty() {
         absorb_message::<R, E>(engine, label, 1, 2);
@@ -160,7 +166,8 @@ fn absorb_label<R: Rate, E: Engine>(engine: &mut E, label: &[u8])
 
 // Whether key, nonce and seal have 16 bytes, and the place holds as many as are needed.
 fn fits(key: &[u8], nonce: &[u8], tag: &[u8], needed: usize, place: usize) -> bool
-    ensures { λ r. ⌜ r ≡ measured (length (now (key .entry))) (length (now (nonce .entry))) (length (now (tag .entry))) needed place ⌝ }
+    ensures { λ r. ⌜ r
+        ≡ measured (length (now (key .entry))) (length (now (nonce .entry))) (length (now (tag .entry))) needed place ⌝ }
 {
     key.len() == 16 && nonce.len() == 16 && tag.len() == 16 && needed <= place
 }
@@ -168,7 +175,7 @@ fn fits(key: &[u8], nonce: &[u8], tag: &[u8], needed: usize, place: usize) -> bo
 // Bytes of the state, from place `at` on.
 fn read_bytes<const N: usize, E: Engine>(engine: &E, at: usize) -> [u8; N]
     requires { ⌜ at + N ≤ 40 ⌝ }
-    ensures { λ r. ⌜ r ≡ take N (drop at (E·Engine .state (now (engine .entry)))) ⌝ }
+    ensures { λ r. ⌜ r ≡ take N (drop at (state (now (engine .entry)))) ⌝ }
 {
     let mut bytes = [0u8; N];
     for i in 0..N {
@@ -180,8 +187,8 @@ fn read_bytes<const N: usize, E: Engine>(engine: &E, at: usize) -> [u8; N]
 // The end of a message under the key, and its seal.
 fn finish<R: Rate, E: Engine>(engine: &mut E, key: &[u8]) -> [u8; 16]
     requires { ⌜ length (now key) ≡ 16 ⌝ }
-    ensures tag { λ r. ⌜ r ≡ take 16 (drop 16 (keyed (R·Rate .setting) 4 4 (now (key .entry)) (E·Engine .state (now (engine .entry))))) ⌝ }
-    ensures clear { λ _. ⌜ E·Engine .state (now (engine .exit)) ≡ replicate 40 0 ⌝ }
+    ensures tag { λ r. ⌜ r ≡ take 16 (drop 16 (keyed setting 4 4 (now (key .entry)) (state (now (engine .entry))))) ⌝ }
+    ensures clear { λ _. ⌜ state (now (engine .exit)) ≡ replicate 40 0 ⌝ }
 {
     absorb_key::<R, E>(engine, key, 4, 4);
     let tag = read_bytes::<16, E>(engine, 16);
@@ -191,7 +198,8 @@ fn finish<R: Rate, E: Engine>(engine: &mut E, key: &[u8]) -> [u8; 16]
 
 fn prepare<R: Rate, E: Engine>(engine: &mut E, key: &[u8], nonce: &[u8], label: &[u8])
     requires { ⌜ length (now key) ≡ 16 ⌝ ∗ ⌜ length (now nonce) ≡ 16 ⌝ }
-    ensures { λ _. ⌜ E·Engine .state (now (engine .exit)) ≡ ready (R·Rate .setting) (now (key .entry)) (now (nonce .entry)) (now (label .entry)) ⌝ }
+    ensures { λ _. ⌜ state (now (engine .exit))
+        ≡ ready setting (now (key .entry)) (now (nonce .entry)) (now (label .entry)) ⌝ }
 {
     start::<R, E>(engine, key, nonce);
     absorb_label::<R, E>(engine, label);

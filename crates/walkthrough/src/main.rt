@@ -19,7 +19,9 @@ type Engine = Recorder<Sliced>;
 const KEY: &[u8; 16] = b"ATLAS BINDERY 07";
 // school 207, run 5
 const NONCE: &[u8; 16] = &[0, 0, 0, 0, 0, 0, 0, 207, 0, 0, 0, 0, 0, 0, 0, 5];
+
 const LABEL: &[u8; 28] = b"BV1,207,1,3,25,40,48,ATLAS 2";
+
 const TEXT: &[u8; 47] = b",! ,NOR? ,SEA\nDEP?S IN METRES\n#AJ #BE #EJ #AJJ\n";
 
 fn main(rt: LibcRuntime) -> io::Result<()> {
@@ -31,7 +33,15 @@ fn main(rt: LibcRuntime) -> io::Result<()> {
     hex(&rt, "nonce of school 207, run 5", NONCE)?;
     words(&rt, "label", LABEL)?;
     words(&rt, "text", TEXT)?;
-    let answer = seal::<Rate64, Engine>(&mut engine, KEY, NONCE, LABEL, TEXT, &mut sealed, &mut tag);
+    let answer = seal::<Rate64, Engine>(
+        &mut engine,
+        KEY,
+        NONCE,
+        LABEL,
+        TEXT,
+        &mut sealed,
+        &mut tag,
+    );
     events(&rt, &mut engine)?;
     hex(&rt, "sealed bytes", &sealed)?;
     hex(&rt, "seal", &tag)?;
@@ -42,7 +52,10 @@ fn main(rt: LibcRuntime) -> io::Result<()> {
     opening(&rt, &mut engine, &sealed, &tag)?;
 
     println!(rt, "")?;
-    println!(rt, "One sealed byte is changed, and it is opened once more.")?;
+    println!(
+        rt,
+        "One sealed byte is changed, and it is opened once more."
+    )?;
     let old = sealed[9];
     sealed[9] ^= 4;
     let new = sealed[9];
@@ -55,7 +68,11 @@ fn opening(rt: &LibcRuntime, engine: &mut Engine, sealed: &[u8], tag: &[u8]) -> 
     let mut text = [b'='; 47];
     let answer = open::<Rate64, Engine>(engine, KEY, NONCE, LABEL, sealed, tag, &mut text);
     events(rt, engine)?;
-    let compared = if answer.is_ok() { "it is the one given" } else { "it is not the one given" };
+    let compared = if answer.is_ok() {
+        "it is the one given"
+    } else {
+        "it is not the one given"
+    };
     println!(rt, "seal compared: {compared}")?;
     report(rt, answer)?;
     if answer.is_ok() {
@@ -102,7 +119,11 @@ fn event(rt: &LibcRuntime, part: &str, event: Event) -> io::Result<()> {
     match event {
         Event::Nothing => Ok(()),
         Event::Loaded(bytes) => loaded(rt, bytes),
-        Event::Permuted { block, domain, rounds } => permuted(rt, part, block, domain, rounds),
+        Event::Permuted {
+            block,
+            domain,
+            rounds,
+        } => permuted(rt, part, block, domain, rounds),
     }
 }
 
@@ -115,7 +136,13 @@ fn loaded(rt: &LibcRuntime, bytes: [u8; 40]) -> io::Result<()> {
     hex(rt, "initial vector loaded", &bytes[32..40])
 }
 
-fn permuted(rt: &LibcRuntime, part: &str, block: [u8; 8], domain: u8, rounds: usize) -> io::Result<()> {
+fn permuted(
+    rt: &LibcRuntime,
+    part: &str,
+    block: [u8; 8],
+    domain: u8,
+    rounds: usize,
+) -> io::Result<()> {
     if block == [0; 8] && domain == 0 {
         return println!(rt, "{rounds} rounds");
     }

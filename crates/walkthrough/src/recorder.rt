@@ -1,6 +1,6 @@
 //! An engine that passes each call on to another, and notes what the permutation was given.
 
-ghost use Rattle.walkthrough.specs.declared.recorder.Recorder.{Recorder};
+ghost use lib.ListN.{getD, replicate};
 ghost use mathlib.Core.Path.{_≡_};
 use sycon::engine::Engine;
 
@@ -11,7 +11,11 @@ pub const ROOM: usize = 32;
 pub enum Event {
     Nothing,
     Loaded([u8; 40]),
-    Permuted { block: [u8; 8], domain: u8, rounds: usize },
+    Permuted {
+        block: [u8; 8],
+        domain: u8,
+        rounds: usize,
+    },
 }
 
 /// Another engine, the first bytes and the last of its state as the last event left them, and the events.
@@ -48,13 +52,26 @@ pub impl<E: Engine> Engine for Recorder<E> as RecorderEngine {
 }
 
 impl<E: Engine> Recorder<E> {
-    pub fn new(engine: E) -> Self {
-        Recorder { engine, front: [0; 8], last: 0, events: [Event::Nothing; ROOM], count: 0 }
+    pub fn new(engine: E) -> Self
+        ensures engine { λ r. ⌜ r .engine ≡ engine ⌝ }
+        ensures events { λ r. ⌜ r .events ≡ replicate 32 Event.Nothing ⌝ }
+    {
+        Recorder {
+            engine,
+            front: [0; 8],
+            last: 0,
+            events: [Event::Nothing; ROOM],
+            count: 0,
+        }
     }
 
     /// The events so far, oldest first; past `ROOM` none is kept.
     pub fn event(&self, i: usize) -> Event {
-        if i < self.count && i < ROOM { self.events[i] } else { Event::Nothing }
+        if i < self.count && i < ROOM {
+            self.events[i]
+        } else {
+            Event::Nothing
+        }
     }
 
     pub fn forget(&mut self)
@@ -70,7 +87,11 @@ impl<E: Engine> Recorder<E> {
             block[k] ^= self.front[k];
         }
         let domain = domain_of(self.engine.byte(39) ^ self.last);
-        Event::Permuted { block, domain, rounds }
+        Event::Permuted {
+            block,
+            domain,
+            rounds,
+        }
     }
 
     fn note(&mut self, event: Event)

@@ -10,7 +10,8 @@ use sycon::engine::Engine;
 
 /// Writes the digest of `text`, 32 bytes, to `place`.
 pub fn digest<E: Engine>(engine: &mut E, text: &[u8], place: &mut [u8]) -> Result<(), Refusal>
-    ensures { λ r. ⌜ (r, now (place .exit), E·Engine .state (now (engine .exit))) ≡ digesting (now (text .entry)) (now (place .entry)) (E·Engine .state (now (engine .entry))) ⌝ }
+    ensures { λ r. ⌜ (r, now (place .exit), state (now (engine .exit)))
+        ≡ digesting (now (text .entry)) (now (place .entry)) (state (now (engine .entry))) ⌝ }
 {
     if place.len() != 32 {
         return Err(Refusal::Measure);
@@ -30,7 +31,9 @@ impl Rate for Hashing as HashingRate {
     ghost setting = { hashing };
 
     const BLOCK: usize = 8;
+
     const ROUNDS: usize = 14;
+
     const INITIAL_VECTOR: u64 = 0x1C0A80D42C6E63C5;
 
     fn block_len() -> usize {
@@ -57,7 +60,7 @@ fn start_bytes() -> [u8; 40]
 // Four times the first 8 bytes, with 14 rounds between.
 fn squeeze<E: Engine>(engine: &mut E, place: &mut [u8])
     requires { ⌜ length (now place) ≡ 32 ⌝ }
-    ensures { λ _. ⌜ now (place .exit) ≡ squeezed 4 (E·Engine .state (now (engine .entry))) ⌝ }
+    ensures { λ _. ⌜ now (place .exit) ≡ squeezed 4 (state (now (engine .entry))) ⌝ }
 {
     super::put(place, 0, &super::read_bytes::<8, E>(engine, 0));
     for i in 1..4 {

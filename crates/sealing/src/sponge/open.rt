@@ -23,12 +23,17 @@ pub fn open<R: Rate, E: Engine>(
     tag: &[u8],
     text: &mut [u8],
 ) -> Result<(), Refusal>
-    ensures { λ r. ⌜ (r, now (text .exit), E·Engine .state (now (engine .exit))) ≡ opening (R·Rate .setting) (now (key .entry)) (now (nonce .entry)) (now (label .entry)) (now (sealed .entry)) (now (tag .entry)) (now (text .entry)) (E·Engine .state (now (engine .entry))) ⌝ }
+    ensures { λ r. ⌜ (r, now (text .exit), state (now (engine .exit)))
+        ≡ opening setting (now (key .entry)) (now (nonce .entry)) (now (label .entry)) (now (sealed .entry))
+        (now (tag .entry)) (now (text .entry)) (state (now (engine .entry))) ⌝ }
 {
     if !super::fits(key, nonce, tag, sealed.len(), text.len()) {
         return Err(Refusal::Measure);
     }
-    let guard = Guard { place: text, extent: sealed.len() };
+    let guard = Guard {
+        place: text,
+        extent: sealed.len(),
+    };
     super::prepare::<R, E>(engine, key, nonce, label);
     open_text::<R, E>(engine, sealed, guard.place);
     let computed = super::finish::<R, E>(engine, key);
@@ -48,7 +53,8 @@ struct Guard<'a> {
 impl Drop for Guard<'_> {
     fn drop(self)
         requires { ⌜ self .extent ≤ length (now (self .place)) ⌝ }
-        ensures { λ _. ⌜ now (self .exit .0) ≡ replicate (self .entry .extent) 0 ++ drop (self .entry .extent) (now (self .entry .place)) ⌝ }
+        ensures { λ _. ⌜ now (self .exit .0)
+            ≡ replicate (self .entry .extent) 0 ++ drop (self .entry .extent) (now (self .entry .place)) ⌝ }
     {
         let Guard { place, extent } = self;
         clear(place, extent);
@@ -60,7 +66,10 @@ impl Guard<'_> {
     fn release(self)
         ensures { λ _. ⌜ now (self .exit .0) ≡ now (self .entry .place) ⌝ }
     {
-        let Guard { place: _, extent: _ } = self;
+        let Guard {
+            place: _,
+            extent: _,
+        } = self;
     }
 }
 
@@ -80,9 +89,14 @@ fn same_bytes(a: &[u8], b: &[u8]) -> bool
 
 fn open_text<R: Rate, E: Engine>(engine: &mut E, sealed: &[u8], text: &mut [u8])
     requires { ⌜ length (now sealed) ≤ length (now text) ⌝ }
-    ensures text { λ _. ⌜ now (text .exit) ≡ opened-from (R·Rate .setting) 0 (now (sealed .entry)) (E·Engine .state (now (engine .entry))) ++ drop (length (now (sealed .entry))) (now (text .entry)) ⌝ }
-    ensures tail { λ _. ⌜ drop (length (now (sealed .entry))) (now (text .exit)) ≡ drop (length (now (sealed .entry))) (now (text .entry)) ⌝ }
-    ensures state { λ _. ⌜ E·Engine .state (now (engine .exit)) ≡ message (R·Rate .setting) 2 4 (opened-from (R·Rate .setting) 0 (now (sealed .entry)) (E·Engine .state (now (engine .entry)))) (E·Engine .state (now (engine .entry))) ⌝ }
+    ensures text { λ _. ⌜ now (text .exit)
+        ≡ opened-from setting 0 (now (sealed .entry)) (state (now (engine .entry)))
+        ++ drop (length (now (sealed .entry))) (now (text .entry)) ⌝ }
+    ensures tail { λ _. ⌜ drop (length (now (sealed .entry))) (now (text .exit))
+        ≡ drop (length (now (sealed .entry))) (now (text .entry)) ⌝ }
+    ensures state { λ _. ⌜ state (now (engine .exit))
+        ≡ message setting 2 4 (opened-from setting 0 (now (sealed .entry)) (state (now (engine .entry))))
+        (state (now (engine .entry))) ⌝ }
 {
     let place = open_bytes::<R, E>(engine, sealed, text);
     super::end::<R, E>(engine, place, 4);
@@ -90,10 +104,16 @@ fn open_text<R: Rate, E: Engine>(engine: &mut E, sealed: &[u8], text: &mut [u8])
 
 fn open_bytes<R: Rate, E: Engine>(engine: &mut E, sealed: &[u8], text: &mut [u8]) -> usize
     requires { ⌜ length (now sealed) ≤ length (now text) ⌝ }
-    ensures text { λ _. ⌜ now (text .exit) ≡ opened-from (R·Rate .setting) 0 (now (sealed .entry)) (E·Engine .state (now (engine .entry))) ++ drop (length (now (sealed .entry))) (now (text .entry)) ⌝ }
-    ensures tail { λ _. ⌜ drop (length (now (sealed .entry))) (now (text .exit)) ≡ drop (length (now (sealed .entry))) (now (text .entry)) ⌝ }
-    ensures place { λ r. ⌜ r ≡ place-after (R·Rate .setting) 0 (opened-from (R·Rate .setting) 0 (now (sealed .entry)) (E·Engine .state (now (engine .entry)))) ⌝ }
-    ensures state { λ _. ⌜ E·Engine .state (now (engine .exit)) ≡ state-after (R·Rate .setting) 2 0 (opened-from (R·Rate .setting) 0 (now (sealed .entry)) (E·Engine .state (now (engine .entry)))) (E·Engine .state (now (engine .entry))) ⌝ }
+    ensures text { λ _. ⌜ now (text .exit)
+        ≡ opened-from setting 0 (now (sealed .entry)) (state (now (engine .entry)))
+        ++ drop (length (now (sealed .entry))) (now (text .entry)) ⌝ }
+    ensures tail { λ _. ⌜ drop (length (now (sealed .entry))) (now (text .exit))
+        ≡ drop (length (now (sealed .entry))) (now (text .entry)) ⌝ }
+    ensures place { λ r. ⌜ r
+        ≡ place-after setting 0 (opened-from setting 0 (now (sealed .entry)) (state (now (engine .entry)))) ⌝ }
+    ensures state { λ _. ⌜ state (now (engine .exit))
+        ≡ state-after setting 2 0 (opened-from setting 0 (now (sealed .entry)) (state (now (engine .entry))))
+        (state (now (engine .entry))) ⌝ }
 {
     let mut place = 0;
     for (i, y) in sealed.iter().enumerate() {

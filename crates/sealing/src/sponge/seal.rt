@@ -21,7 +21,9 @@ pub fn seal<R: Rate, E: Engine>(
     sealed: &mut [u8],
     tag: &mut [u8],
 ) -> Result<(), Refusal>
-    ensures { λ r. ⌜ (r, now (sealed .exit), now (tag .exit), E·Engine .state (now (engine .exit))) ≡ sealing (R·Rate .setting) (now (key .entry)) (now (nonce .entry)) (now (label .entry)) (now (text .entry)) (now (sealed .entry)) (now (tag .entry)) (E·Engine .state (now (engine .entry))) ⌝ }
+    ensures { λ r. ⌜ (r, now (sealed .exit), now (tag .exit), state (now (engine .exit)))
+        ≡ sealing setting (now (key .entry)) (now (nonce .entry)) (now (label .entry)) (now (text .entry))
+        (now (sealed .entry)) (now (tag .entry)) (state (now (engine .entry))) ⌝ }
 {
     if !super::fits(key, nonce, tag, text.len(), sealed.len()) {
         return Err(Refusal::Measure);
@@ -35,8 +37,11 @@ pub fn seal<R: Rate, E: Engine>(
 
 fn seal_text<R: Rate, E: Engine>(engine: &mut E, text: &[u8], sealed: &mut [u8])
     requires { ⌜ length (now text) ≤ length (now sealed) ⌝ }
-    ensures sealed { λ _. ⌜ now (sealed .exit) ≡ sealed-from (R·Rate .setting) 0 (now (text .entry)) (E·Engine .state (now (engine .entry))) ++ drop (length (now (text .entry))) (now (sealed .entry)) ⌝ }
-    ensures state { λ _. ⌜ E·Engine .state (now (engine .exit)) ≡ message (R·Rate .setting) 2 4 (now (text .entry)) (E·Engine .state (now (engine .entry))) ⌝ }
+    ensures sealed { λ _. ⌜ now (sealed .exit)
+        ≡ sealed-from setting 0 (now (text .entry)) (state (now (engine .entry)))
+        ++ drop (length (now (text .entry))) (now (sealed .entry)) ⌝ }
+    ensures state { λ _. ⌜ state (now (engine .exit))
+        ≡ message setting 2 4 (now (text .entry)) (state (now (engine .entry))) ⌝ }
 {
     let place = seal_bytes::<R, E>(engine, text, sealed);
     super::end::<R, E>(engine, place, 4);
@@ -44,9 +49,12 @@ fn seal_text<R: Rate, E: Engine>(engine: &mut E, text: &[u8], sealed: &mut [u8])
 
 fn seal_bytes<R: Rate, E: Engine>(engine: &mut E, text: &[u8], sealed: &mut [u8]) -> usize
     requires { ⌜ length (now text) ≤ length (now sealed) ⌝ }
-    ensures sealed { λ _. ⌜ now (sealed .exit) ≡ sealed-from (R·Rate .setting) 0 (now (text .entry)) (E·Engine .state (now (engine .entry))) ++ drop (length (now (text .entry))) (now (sealed .entry)) ⌝ }
-    ensures place { λ r. ⌜ r ≡ place-after (R·Rate .setting) 0 (now (text .entry)) ⌝ }
-    ensures state { λ _. ⌜ E·Engine .state (now (engine .exit)) ≡ state-after (R·Rate .setting) 2 0 (now (text .entry)) (E·Engine .state (now (engine .entry))) ⌝ }
+    ensures sealed { λ _. ⌜ now (sealed .exit)
+        ≡ sealed-from setting 0 (now (text .entry)) (state (now (engine .entry)))
+        ++ drop (length (now (text .entry))) (now (sealed .entry)) ⌝ }
+    ensures place { λ r. ⌜ r ≡ place-after setting 0 (now (text .entry)) ⌝ }
+    ensures state { λ _. ⌜ state (now (engine .exit))
+        ≡ state-after setting 2 0 (now (text .entry)) (state (now (engine .entry))) ⌝ }
 {
     let mut place = 0;
     for (i, x) in text.iter().enumerate() {

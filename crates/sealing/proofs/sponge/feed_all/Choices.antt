@@ -9,6 +9,6 @@ abbrev pub Inv-loop-x : given.InvT-loop-x
 Inv-loop-x g l =
     (l .place < g .R·Rate .setting .block)
     × (place-after (g .R·Rate .setting) (l .place) (drop (l .x-index) (l .bytes))
-      ≡ place-after (g .R·Rate .setting) 0 (l .bytes))
+    ≡ place-after (g .R·Rate .setting) 0 (l .bytes))
     × (state-after (g .R·Rate .setting) (l .domain) (l .place) (drop (l .x-index) (l .bytes)) (g .E·Engine .state (l .engine))
-      ≡ state-after (g .R·Rate .setting) (l .domain) 0 (l .bytes) (g .E·Engine .state (l .entry .engine)))
+    ≡ state-after (g .R·Rate .setting) (l .domain) 0 (l .bytes) (g .E·Engine .state (l .entry .engine)))

@@ -25,13 +25,14 @@ loop-i-again g c =
     let e = c .feed-place .ensures .place in
     let f = c .feed-place .ensures .state in
     let b : x ≡ bitXor (getD s p 0) (getD ys i 0) = ap (λ v. bitXor v (getD ys i 0)) (c .byte .ensures) in
-    let within : i < length out = omega arith in
-    (c .feed-place .ensures .within,
+    let within : i < length out = omega arith in (
+      c .feed-place .ensures .within,
       opened-place-more t p p′ i x ys s s′ h e b f ∙ c .loop-i .inv .1,
       opened-state-more t p p′ i x ys s s′ h e b f ∙ c .loop-i .inv .2,
       written-more i out out x (opened-from t p′ (drop (i + 1) ys) s′) within
-        ∙ ap (λ zs. take i out ++ zs) (opened-more t p p′ i x ys s s′ h e b f) ∙ c .loop-i .inv .3,
-      tail-more i out (c .args .text .now) _ (c .loop-i .inv .4))
+          ∙ ap (λ zs. take i out ++ zs) (opened-more t p p′ i x ys s s′ h e b f) ∙ c .loop-i .inv .3,
+      tail-more i out (c .args .text .now) _ (c .loop-i .inv .4),
+    )
 
 pub returns : need.returns
 returns g c =
@@ -40,7 +41,10 @@ returns g c =
     let h = c .loop-i-test .left in
     let n : i ≡ length (c .args .sealed .now) = omega arith in
     record {
-      text = written-all i (c .loop-i .text) (c .args .text .now) _ _ _ n (opened-all t _ i _ _ h) (c .loop-i .inv .3) (c .loop-i .inv .4);
+      text =
+          written-all i (c .loop-i .text) (c .args .text .now) _ _ _ n (opened-all t _ i _ _ h) (c .loop-i .inv .3)
+          (c .loop-i .inv .4);
       tail = rw (← n) (c .loop-i .inv .4);
       place = sym (opened-place-all t _ i _ _ h) ∙ c .loop-i .inv .1;
-      state = sym (opened-state-all t _ i _ _ h) ∙ c .loop-i .inv .2 }
+      state = sym (opened-state-all t _ i _ _ h) ∙ c .loop-i .inv .2;
+    }

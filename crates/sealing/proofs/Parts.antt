@@ -7,8 +7,8 @@ use native.Mathlib.Omega.{arith}
 use borrow.Author.Count.{below-more}
 use borrow.Rule.Slice.PartMut.{putMid}
 use lib.ListN.{length, getD, set, take, drop, length-drop, length-append}
-use Rattle.std.proofs.shelf.Lists.{append-assoc, append-nil, drop-all, drop-at, drop-drop, drop-set-lt, ext-getD, getD-drop}
-use Rattle.std.proofs.shelf.Lists.{getD-set-other, getD-set-same, getD-take, length-take, take-all, take-append-drop, take-at, take-more-set}
+use Rattle.std.proofs.shelf.Lists.{append-assoc, append-nil, drop-all, drop-at, drop-drop, drop-set-lt, ext-getD, getD-drop, getD-set-other}
+use Rattle.std.proofs.shelf.Lists.{getD-set-same, getD-take, length-take, take-all, take-append-drop, take-at, take-more-set}
 use Rattle.std.proofs.shelf.Tests.{cases-lt}
 use Rattle.sealing.specs.Sponge.{with-part}
 

@@ -1,6 +1,8 @@
 //! An engine that passes each call on to another, and notes what the permutation was given.
 
+ghost use lib.Dec.{ltb};
 ghost use lib.ListN.{getD, replicate};
+ghost use mathlib.Core.Bool.{cond};
 ghost use mathlib.Core.Path.{_≡_};
 use sycon::engine::Engine;
 
@@ -65,18 +67,21 @@ impl<E: Engine> Recorder<E> {
         }
     }
 
-    /// The events so far, oldest first; past `ROOM` none is kept.
-    pub fn event(&self, i: usize) -> Event {
-        if i < self.count && i < ROOM {
-            self.events[i]
-        } else {
-            Event::Nothing
+    /// An event since the last `forget`, the oldest at 0; past `ROOM` none is kept.
+    pub fn event(&self, i: usize) -> Event
+        ensures { λ r. ⌜ r ≡ cond (ltb i 32) (getD (now (self .entry) .events) i Event.Nothing) Event.Nothing ⌝ }
+    {
+        if i >= ROOM {
+            return Event::Nothing;
         }
+        self.events[i]
     }
 
     pub fn forget(&mut self)
-        ensures { λ _. ⌜ now (self .exit) .engine ≡ now (self .entry) .engine ⌝ }
+        ensures engine { λ _. ⌜ now (self .exit) .engine ≡ now (self .entry) .engine ⌝ }
+        ensures events { λ _. ⌜ now (self .exit) .events ≡ replicate 32 Event.Nothing ⌝ }
     {
+        self.events = [Event::Nothing; ROOM];
         self.count = 0;
     }
 

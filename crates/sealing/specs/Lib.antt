@@ -1,4 +1,5 @@
 pub mod Calls
+pub mod Laws
 pub mod Rates
 pub mod Sealing
 pub mod Sponge

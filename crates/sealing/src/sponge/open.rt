@@ -1,11 +1,13 @@
 //! Opening.
 
 ghost use Prim.Native.Nat.{_≤_, _<_};
-ghost use Rattle.sealing.specs.Calls.{opening};
+ghost use Rattle.sealing.specs.Calls.{measured, opening};
+ghost use Rattle.sealing.specs.Laws.{Opened};
 ghost use Rattle.sealing.specs.Sealing.{opened-from};
 ghost use Rattle.sealing.specs.Sponge.{place-after, state-after, message};
 ghost use Rattle.std.specs.shelf.Text.{sameBytes};
 ghost use lib.ListN.{length, drop, replicate};
+ghost use mathlib.Core.Bool.{true};
 ghost use mathlib.Core.List.{_++_};
 ghost use mathlib.Core.Path.{_≡_};
 use super::super::rate::Rate;
@@ -15,6 +17,47 @@ use sycon::engine::Engine;
 /// Opens `sealed` under key, nonce and label: its text goes to the front of `text` if `tag` is its seal.
 /// If it is not, zeros go there.
 pub fn open<R: Rate, E: Engine>(
+    engine: &mut E,
+    key: &[u8],
+    nonce: &[u8],
+    label: &[u8],
+    sealed: &[u8],
+    tag: &[u8],
+    text: &mut [u8],
+) -> Result<(), Refusal>
+    ensures outcome { λ r. ⌜ (r, now (text .exit), state (now (engine .exit)))
+        ≡ opening setting (now (key .entry)) (now (nonce .entry)) (now (label .entry)) (now (sealed .entry))
+        (now (tag .entry)) (now (text .entry)) (state (now (engine .entry))) ⌝ }
+    ensures law { λ r. ⌜ (measured (length (now (key .entry))) (length (now (nonce .entry))) (length (now (tag .entry)))
+        (length (now (sealed .entry))) (length (now (text .entry))) ≡ true
+        → Opened setting (now (key .entry)) (now (nonce .entry)) (now (label .entry)) (now (sealed .entry))
+        (now (tag .entry)) r (now (text .exit))) ⌝ }
+{
+    open_exactly::<R, E>(engine, key, nonce, label, sealed, tag, text)
+}
+
+// What the outcome means, beside what it is.
+fn open_exactly<R: Rate, E: Engine>(
+    engine: &mut E,
+    key: &[u8],
+    nonce: &[u8],
+    label: &[u8],
+    sealed: &[u8],
+    tag: &[u8],
+    text: &mut [u8],
+) -> Result<(), Refusal>
+    ensures outcome { λ r. ⌜ (r, now (text .exit), state (now (engine .exit)))
+        ≡ opening setting (now (key .entry)) (now (nonce .entry)) (now (label .entry)) (now (sealed .entry))
+        (now (tag .entry)) (now (text .entry)) (state (now (engine .entry))) ⌝ }
+    ensures law { λ r. ⌜ (measured (length (now (key .entry))) (length (now (nonce .entry))) (length (now (tag .entry)))
+        (length (now (sealed .entry))) (length (now (text .entry))) ≡ true
+        → Opened setting (now (key .entry)) (now (nonce .entry)) (now (label .entry)) (now (sealed .entry))
+        (now (tag .entry)) r (now (text .exit))) ⌝ }
+{
+    open_place::<R, E>(engine, key, nonce, label, sealed, tag, text)
+}
+
+fn open_place<R: Rate, E: Engine>(
     engine: &mut E,
     key: &[u8],
     nonce: &[u8],

@@ -1,3 +1,4 @@
+pub mod Blocks
 pub mod Inverse
 pub mod Parts
 pub mod Squeeze

@@ -18,13 +18,13 @@ use Rattle.sealing.specs.Blocks.{absorbed-all, blocks, cut, marked, padded}
 use Rattle.sealing.specs.Rates.{Setting}
 use Rattle.sealing.specs.Sponge.{with-byte, with-bytes, with-domain, absorbed, next, fed, place-after, state-after, ended, message}
 
-zero-mul-add : (b r : ℕ) → zero * b + r ≡ r
+pub zero-mul-add : (b r : ℕ) → zero * b + r ≡ r
 zero-mul-add b r = ap (λ x. x + r) (zero-mul b) ∙ zero-add r
 
-suc-mul-add : (n b r : ℕ) → suc n * b + r ≡ b + (n * b + r)
+pub suc-mul-add : (n b r : ℕ) → suc n * b + r ≡ b + (n * b + r)
 suc-mul-add n b r = ap (λ x. x + r) (suc-mul n b) ∙ omega arith
 
-with-bytes-append : (p : ℕ) (xs ys s : List ℕ) → with-bytes p (xs ++ ys) s ≡ with-bytes (p + length xs) ys (with-bytes p xs s)
+pub with-bytes-append : (p : ℕ) (xs ys s : List ℕ) → with-bytes p (xs ++ ys) s ≡ with-bytes (p + length xs) ys (with-bytes p xs s)
 unfolding with-bytes
 with-bytes-append p [] ys s = let e : p ≡ p + 0 = omega arith in ap (λ q. with-bytes q ys s) e
 with-bytes-append p (x ∷ xs) ys s =
@@ -73,7 +73,7 @@ module _ (t : Setting) (d : ℕ) where
   full-state p x (y ∷ xs) ys s h =
       let ne : eqb (p + 1) (t .block) ≡ false = ne-eqb (p + 1) (t .block) (λ e. omega arith) in
       ap (λ b. state-after t d (cond b 0 (p + 1)) ((y ∷ xs) ++ ys)
-        (cond b (permuted (t .rounds) (with-domain d (with-byte p x s))) (with-byte p x s))) ne
+      (cond b (permuted (t .rounds) (with-domain d (with-byte p x s))) (with-byte p x s))) ne
       ∙ full-state (p + 1) y xs ys (with-byte p x s) (omega arith)
 
   module _ (e : ℕ) (pos : 0 < t .block) where
@@ -93,9 +93,9 @@ module _ (t : Setting) (d : ℕ) where
         let z : 0 + length xs ≡ length xs = omega arith in
         ap₂ (λ q u. ended t e q u) p (open-state 0 xs s (omega arith))
         ∙ ap (λ u. permuted (t .rounds) (with-domain e u))
-          (sym (with-bytes-append 0 xs (1 ∷ replicate n 0) s
-            ∙ ap (λ q. with-bytes (q + 1) (replicate n 0) (with-byte q 1 (with-bytes 0 xs s))) z
-            ∙ with-zeros (length xs + 1) n (with-byte (length xs) 1 (with-bytes 0 xs s))))
+        (sym (with-bytes-append 0 xs (1 ∷ replicate n 0) s
+        ∙ ap (λ q. with-bytes (q + 1) (replicate n 0) (with-byte q 1 (with-bytes 0 xs s))) z
+        ∙ with-zeros (length xs + 1) n (with-byte (length xs) 1 (with-bytes 0 xs s))))
 
     -- n full blocks and r bytes more: the padding fills the block that these begin
     module _ (r : ℕ) (h : r < t .block) where
@@ -108,7 +108,7 @@ module _ (t : Setting) (d : ℕ) where
       message-cut zero xs s l =
           let k : length xs ≡ r = l ∙ zero-mul-add (t .block) r in
           let whole : take (t .block) (xs ++ padding) ≡ xs ++ padding =
-            take-all (t .block) (xs ++ padding) (simp (length-append, length-replicate) (omega arith)) in
+          take-all (t .block) (xs ++ padding) (simp (length-append, length-replicate) (omega arith)) in
           message-last xs s (t .block - 1 - r) (omega arith) ∙ ap (λ x. absorbed (t .rounds) x e s) (sym whole)
       message-cut (suc n) xs s l =
           let m : length xs ≡ t .block + (n * t .block + r) = l ∙ suc-mul-add n (t .block) r in
@@ -118,7 +118,7 @@ module _ (t : Setting) (d : ℕ) where
           ∙ message-more (take (t .block) xs) (drop (t .block) xs) s (length-take-le (t .block) xs k)
           ∙ message-cut n (drop (t .block) xs) (absorbed (t .rounds) (take (t .block) xs) d s) rest
           ∙ ap₂ (λ x y. absorbed-all (t .rounds) (marked d e (cut (t .block) (suc n) y)) (absorbed (t .rounds) x d s))
-            (sym (take-append-le (t .block) xs padding k)) (sym (drop-append-le (t .block) xs padding k))
+          (sym (take-append-le (t .block) xs padding k)) (sym (drop-append-le (t .block) xs padding k))
 
     pub message-blocks : (xs s : List ℕ) → message t d e xs s ≡ absorbed-all (t .rounds) (marked d e (blocks (t .block) xs)) s
     message-blocks xs s =

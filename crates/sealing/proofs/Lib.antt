@@ -1,5 +1,6 @@
 pub mod Blocks
 pub mod Inverse
 pub mod Parts
+pub mod SealedBlocks
 pub mod Squeeze
 pub mod Stream

@@ -1,4 +1,5 @@
 pub mod Digits
+pub mod Lengths
 pub mod Packing
 pub mod Steps
 pub mod Tests

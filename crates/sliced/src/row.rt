@@ -1,8 +1,9 @@
 //! The steps on one word.
 
 ghost use Prim.Native.Nat.{ℕ, _+_, _*_, _/_, _%_, _^_, _<_};
-ghost use Rattle.sliced.specs.Rows.{gathered, spread};
+ghost use Rattle.sliced.specs.Rows.{gathered};
 ghost use Rattle.sycon.specs.Permutation.{bit, bits, constant-bytes, first-rotation, of-word, second-rotation};
+ghost use Rattle.sycon.specs.Steps.{spread};
 ghost use lib.ListN.{getD};
 ghost use mathlib.Core.Path.{_≡_};
 

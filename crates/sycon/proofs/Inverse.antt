@@ -1,0 +1,1 @@
+-- Each step of a round is one-to-one and onto, and so is the permutation.

@@ -1,5 +1,5 @@
+pub mod Bijections
 pub mod Digits
-pub mod Inverse
 pub mod Packing
 pub mod Spreading
 pub mod Steps

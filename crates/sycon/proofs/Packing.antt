@@ -18,7 +18,7 @@ use Rattle.sycon.specs.Steps.{Same}
 use Rattle.sycon.proofs.Digits.{bit-low, bit-high, bit-shr}
 
 -- the number that has n given digits, the lowest first
-pub number : ℕ → (ℕ → ℕ) → ℕ
+unfoldable pub number : ℕ → (ℕ → ℕ) → ℕ
 number zero g = 0
 number (suc n) g = g 0 + 2 * number n (λ i. g (suc i))
 

@@ -1,11 +1,13 @@
--- The permutation takes each state to another, and each state has one that is taken to it.
+-- A map of states that is one-to-one, and one that is onto.
 use mathlib.Core.Path.{_≡_}
 use mathlib.Core.List.{List}
 use Prim.Native.Nat.{ℕ}
-use Rattle.sycon.specs.Permutation.{State, permuted}
+use Rattle.sycon.specs.Permutation.{State}
 
-abbrev pub One-to-one : Type 0
-One-to-one = (r : ℕ) (s t : List ℕ) → State s → State t → permuted r s ≡ permuted r t → s ≡ t
+-- no two states have the same image
+abbrev pub One-to-one : (List ℕ → List ℕ) → Type 0
+One-to-one map = (s t : List ℕ) → State s → State t → map s ≡ map t → s ≡ t
 
-abbrev pub Onto : Type 0
-Onto = (r : ℕ) (t : List ℕ) → State t → (s : List ℕ) × State s × (permuted r s ≡ t)
+-- each state is the image of some state
+abbrev pub Onto : (List ℕ → List ℕ) → Type 0
+Onto map = (t : List ℕ) → State t → (s : List ℕ) × State s × (map s ≡ t)

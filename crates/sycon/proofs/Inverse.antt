@@ -1,1 +1,0 @@
--- Each step of a round is one-to-one and onto, and so is the permutation.

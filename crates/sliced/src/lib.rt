@@ -11,6 +11,7 @@ ghost use mathlib.Core.Path.{_≡_};
 mod row;
 
 use sycon::engine::Engine;
+use sycon::engine::TwoWay;
 
 /// The words A_0 to A_4. Loaded from the lowest byte up, a word has its column c as its bit c.
 #[derive(Drop)]
@@ -39,6 +40,12 @@ pub impl Engine for Sliced as SlicedEngine {
 
     fn turn(&mut self, r: usize) {
         self.run(r.min(14));
+    }
+}
+
+pub impl TwoWay for Sliced as SlicedTwoWay {
+    fn turn_back(&mut self, r: usize) {
+        self.run_back(r.min(14));
     }
 }
 
@@ -165,6 +172,63 @@ impl Sliced {
             a4: row::gather(self.a4, &row::ARRANGEMENT[4]),
         };
     }
+
+    // The rounds n - 1 to 0, taken back.
+    fn run_back(&mut self, n: usize)
+        requires { ⌜ n ≤ 14 ⌝ }
+        ensures { λ _. ⌜ ((r : ℕ) → n ≡ min r 14 → permuted r (meant (now (self .exit))) ≡ meant (now (self .entry))) ⌝ }
+    {
+        for i in (0..n).rev() {
+            self.round_back(i);
+        }
+    }
+
+    fn round_back(&mut self, i: usize)
+        requires { ⌜ i < 14 ⌝ }
+        ensures { λ _. ⌜ four-steps i (meant (now (self .exit))) ≡ meant (now (self .entry)) ⌝ }
+    {
+        self.unarrange();
+        self.remove_constant(i);
+        self.undiffuse();
+        self.unsubstitute();
+    }
+
+    fn unarrange(&mut self)
+        ensures { λ _. ⌜ on-state arranged (meant (now (self .exit))) ≡ meant (now (self .entry)) ⌝ }
+    {
+        *self = Sliced {
+            a0: row::gather(self.a0, &row::UNARRANGEMENT[0]),
+            a1: row::gather(self.a1, &row::UNARRANGEMENT[1]),
+            a2: row::gather(self.a2, &row::UNARRANGEMENT[2]),
+            a3: row::gather(self.a3, &row::UNARRANGEMENT[3]),
+            a4: row::gather(self.a4, &row::UNARRANGEMENT[4]),
+        };
+    }
+
+    fn remove_constant(&mut self, i: usize)
+        requires { ⌜ i < 14 ⌝ }
+        ensures { λ _. ⌜ on-state (added i) (meant (now (self .exit))) ≡ meant (now (self .entry)) ⌝ }
+    {
+        self.add_constant(i);
+    }
+
+    fn undiffuse(&mut self)
+        ensures { λ _. ⌜ on-state diffused (meant (now (self .exit))) ≡ meant (now (self .entry)) ⌝ }
+    {
+        *self = Sliced {
+            a0: row::undiffuse(self.a0, 0),
+            a1: row::undiffuse(self.a1, 1),
+            a2: row::undiffuse(self.a2, 2),
+            a3: row::undiffuse(self.a3, 3),
+            a4: row::undiffuse(self.a4, 4),
+        };
+    }
+
+    fn unsubstitute(&mut self)
+        ensures { λ _. ⌜ on-state substituted (meant (now (self .exit))) ≡ meant (now (self .entry)) ⌝ }
+    {
+        *self = inverse_sbox(self.a0, self.a1, self.a2, self.a3, self.a4);
+    }
 }
 
 // The S-box on all columns.
@@ -182,4 +246,18 @@ fn sbox(a0: u64, a1: u64, a2: u64, a3: u64, a4: u64) -> Sliced
         a3: (!t0 & a3) ^ a0 ^ !a2,
         a4: (!a4 & a0) ^ t2,
     }
+}
+
+// The words that the S-box takes to these.
+fn inverse_sbox(b0: u64, b1: u64, b2: u64, b3: u64, b4: u64) -> Sliced
+    ensures { λ r. ⌜ on-state substituted (meant r) ≡ held (b0 ∷ b1 ∷ b2 ∷ b3 ∷ b4 ∷ []) ⌝ }
+{
+    let t0 = b0 ^ b3;
+    let t1 = t0 ^ b1;
+    let a0 = !((b1 | b3) ^ b2 ^ ((t1 & !b3) | b4));
+    let a3 = !(a0 | b4) ^ t1;
+    let a4 = (a3 & t0) ^ a0 ^ b0;
+    let a1 = (!a4 & a0) ^ a3 ^ b4;
+    let a2 = !a4 ^ t0 ^ (!a1 & a3);
+    Sliced { a0, a1, a2, a3, a4 }
 }

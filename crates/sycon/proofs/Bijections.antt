@@ -62,18 +62,18 @@ module _ (p q : ℕ → ℕ) (small : (n : ℕ) → n < 32 → p n < 32) (invers
       let is = column-is f c in
       let hn : n < 32 = rw is (number-below 5 (λ j. f j c) (λ j. d j c)) in
       let there : column (through p f) c ≡ p n =
-        column-is (through p f) c ∙ number-bits 5 (p n) ∙ mod-eq-of-lt (small n hn)
+      column-is (through p f) c ∙ number-bits 5 (p n) ∙ mod-eq-of-lt (small n hn)
       in
       ap (λ m. bit (q m) j) there ∙ ap (λ m. bit m j) (inverse n hn ∙ is) ∙ bit-number 5 (λ j. f j c) (λ j. d j c) j hj
 
   undoes-through : Undoes (through p) (through q)
   unfolding through
   undoes-through =
-      record
-        { respects = λ f g e j c hj hc. ap (λ n. bit (q n) j) (column-same f g e c hc)
-        ; keeps = λ f d j c. bit-digit (p (column f c)) j
-        ; back = through-back
-        }
+      record {
+        respects = λ f g e j c hj hc. ap (λ n. bit (q n) j) (column-same f g e c hc);
+        keeps = λ f d j c. bit-digit (p (column f c)) j;
+        back = through-back;
+      }
 
 below-32 : (p : ℕ → ℕ) → T (every 32 (λ n. ltb (p n) 32)) → (n : ℕ) → n < 32 → p n < 32
 below-32 p t n h = ltb→lt (p n) 32 (at 32 (λ n. ltb (p n) 32) t n h)
@@ -102,11 +102,11 @@ undiffused f j = up (of-word first-rotation j) (of-word second-rotation j) 6 1 (
 diffused-undone : Undoes diffused undiffused
 unfolding diffused undiffused
 diffused-undone =
-    record
-      { respects = λ f g e j c hj hc. up-same (of-word first-rotation j) (of-word second-rotation j) 6 1 (f j) (g j) (λ c h. e j c hj h) c hc
-      ; keeps = digits-diffused
-      ; back = λ f d j c hj hc. up-undoes (of-word first-rotation j) (of-word second-rotation j) (f j) (d j) c hc
-      }
+    record {
+      respects = λ f g e j c hj hc. up-same (of-word first-rotation j) (of-word second-rotation j) 6 1 (f j) (g j) (λ c h. e j c hj h) c hc;
+      keeps = digits-diffused;
+      back = λ f d j c hj hc. up-undoes (of-word first-rotation j) (of-word second-rotation j) (f j) (d j) c hc;
+    }
 
 rediffused : Bits → Bits
 rediffused f j = down (of-word first-rotation j) (of-word second-rotation j) 6 1 (f j)
@@ -114,21 +114,21 @@ rediffused f j = down (of-word first-rotation j) (of-word second-rotation j) 6 1
 diffused-undoes : Undoes rediffused diffused
 unfolding diffused rediffused
 diffused-undoes =
-    record
-      { respects = respects-diffused
-      ; keeps = λ f d j. digits-down (of-word first-rotation j) (of-word second-rotation j) 6 1 (f j) (d j)
-      ; back = λ f d j c hj hc. spread-down (of-word first-rotation j) (of-word second-rotation j) (f j) (d j) c hc
-      }
+    record {
+      respects = respects-diffused;
+      keeps = λ f d j. digits-down (of-word first-rotation j) (of-word second-rotation j) 6 1 (f j) (d j);
+      back = λ f d j c hj hc. spread-down (of-word first-rotation j) (of-word second-rotation j) (f j) (d j) c hc;
+    }
 
 -- step 3
 added-undone : (i : ℕ) → Undoes (added i) (added i)
 unfolding added
 added-undone i =
-    record
-      { respects = respects-added i
-      ; keeps = digits-added i
-      ; back = λ f d j c hj hc. xor-twice (f j c) _
-      }
+    record {
+      respects = respects-added i;
+      keeps = digits-added i;
+      back = λ f d j c hj hc. xor-twice (f j c) _;
+    }
 
 -- step 4: the column that column c goes to in word j
 arrival : ℕ → ℕ → ℕ
@@ -157,20 +157,23 @@ arrival-origin j c hj hc = eqb→eq (arrival j (origin j c)) c (in-cells (λ j c
 arranged-undone : Undoes arranged unarranged
 unfolding arranged unarranged
 arranged-undone =
-    record
-      { respects = λ f g e j c hj hc. e j (arrival j c) hj (arrival-below j c hj hc)
-      ; keeps = λ f d j c. d j (origin j c)
-      ; back = λ f d j c hj hc. ap (f j) (origin-arrival j c hj hc)
-      }
+    record {
+      respects = λ f g e j c hj hc. e j (arrival j c) hj (arrival-below j c hj hc);
+      keeps = λ f d j c. d j (origin j c);
+      back = λ f d j c hj hc. ap (f j) (origin-arrival j c hj hc);
+    }
 
 arranged-undoes : Undoes unarranged arranged
 unfolding arranged unarranged
 arranged-undoes =
-    record
-      { respects = respects-arranged
-      ; keeps = λ f d j c. d j (arrival j c)
-      ; back = λ f d j c hj hc. ap (f j) (arrival-origin j c hj hc)
-      }
+    record {
+      respects = respects-arranged;
+      keeps = λ f d j c. d j (arrival j c);
+      back = λ f d j c hj hc. ap (f j) (arrival-origin j c hj hc);
+    }
+
+pub added-twice : (i : ℕ) (s : List ℕ) → State s → on-state (added i) (on-state (added i) s) ≡ s
+added-twice i = undone (added i) (added i) (added-undone i)
 
 -- a map of states that can be taken back
 pub record Bijection (map : List ℕ → List ℕ) : Type 0 where
@@ -180,11 +183,11 @@ pub record Bijection (map : List ℕ → List ℕ) : Type 0 where
 
 step-bijection : (p q r : Bits → Bits) → Undoes p q → Undoes r p → Bijection (on-state p)
 step-bijection p q r u v =
-    record
-      { keeps = λ s h. state-on p q u s
-      ; one-to-one = λ s t hs ht e. sym (undone p q u s hs) ∙ ap (on-state q) e ∙ undone p q u t ht
-      ; onto = λ t h. (on-state r t, state-on r p v t, undone r p v t h)
-      }
+    record {
+      keeps = λ s h. state-on p q u s;
+      one-to-one = λ s t hs ht e. sym (undone p q u s hs) ∙ ap (on-state q) e ∙ undone p q u t ht;
+      onto = λ t h. (on-state r t, state-on r p v t, undone r p v t h);
+    }
 
 pub substituted-bijection : Bijection (on-state substituted)
 substituted-bijection = step-bijection substituted unsubstituted unsubstituted substituted-undone substituted-undoes
@@ -201,23 +204,23 @@ arranged-bijection = step-bijection arranged unarranged unarranged arranged-undo
 -- one map after another
 after : (m n : List ℕ → List ℕ) → Bijection m → Bijection n → Bijection (λ s. n (m s))
 after m n bm bn =
-    record
-      { keeps = λ s h. bn .keeps (m s) (bm .keeps s h)
-      ; one-to-one = λ s t hs ht e. bm .one-to-one s t hs ht (bn .one-to-one (m s) (m t) (bm .keeps s hs) (bm .keeps t ht) e)
-      ; onto = λ t ht.
+    record {
+      keeps = λ s h. bn .keeps (m s) (bm .keeps s h);
+      one-to-one = λ s t hs ht e. bm .one-to-one s t hs ht (bn .one-to-one (m s) (m t) (bm .keeps s hs) (bm .keeps t ht) e);
+      onto = λ t ht.
           let (u, hu, eu) = bn .onto t ht in
           let (s, hs, es) = bm .onto u hu in
-          (s, hs, ap n es ∙ eu)
-      }
+          (s, hs, ap n es ∙ eu);
+    }
 
 pub round-bijection : (i : ℕ) → Bijection (round i)
 round-bijection i =
     subst Bijection (fun-ext (round-steps i))
-      (after (λ s. on-state (added i) (on-state diffused (on-state substituted s))) (on-state arranged)
-        (after (λ s. on-state diffused (on-state substituted s)) (on-state (added i))
-          (after (on-state substituted) (on-state diffused) substituted-bijection diffused-bijection)
-          (added-bijection i))
-        arranged-bijection)
+    (after (λ s. on-state (added i) (on-state diffused (on-state substituted s))) (on-state arranged)
+    (after (λ s. on-state diffused (on-state substituted s)) (on-state (added i))
+    (after (on-state substituted) (on-state diffused) substituted-bijection diffused-bijection)
+    (added-bijection i))
+    arranged-bijection)
 
 rounds-bijection : (n : ℕ) → Bijection (rounds n)
 unfolding rounds

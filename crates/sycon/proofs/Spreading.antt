@@ -30,11 +30,11 @@ spread-same p q e a b c h =
 spread-twice : (p : ℕ → ℕ) → ((c : ℕ) → p c < 2) → (a b : ℕ) → spread (spread p a b) a b ≡ spread p (2 * a) (2 * b)
 spread-twice p d a b =
     fun-ext (λ c.
-      let aa : ((c + a) % 64 + a) % 64 ≡ (c + 2 * a) % 64 = omega arith in
-      let bb : ((c + b) % 64 + b) % 64 ≡ (c + 2 * b) % 64 = omega arith in
-      let ba : ((c + b) % 64 + a) % 64 ≡ ((c + a) % 64 + b) % 64 = omega arith in
-      cc (cross-terms (p c) (p ((c + a) % 64)) (p ((c + b) % 64)) (p ((c + 2 * a) % 64)) (p (((c + a) % 64 + b) % 64)) (p ((c + 2 * b) % 64))
-        (d c) (d ((c + a) % 64)) (d ((c + b) % 64)) (d ((c + 2 * a) % 64)) (d (((c + a) % 64 + b) % 64)) (d ((c + 2 * b) % 64))))
+    let aa : ((c + a) % 64 + a) % 64 ≡ (c + 2 * a) % 64 = omega arith in
+    let bb : ((c + b) % 64 + b) % 64 ≡ (c + 2 * b) % 64 = omega arith in
+    let ba : ((c + b) % 64 + a) % 64 ≡ ((c + a) % 64 + b) % 64 = omega arith in
+    cc (cross-terms (p c) (p ((c + a) % 64)) (p ((c + b) % 64)) (p ((c + 2 * a) % 64)) (p (((c + a) % 64 + b) % 64)) (p ((c + 2 * b) % 64))
+    (d c) (d ((c + a) % 64)) (d ((c + b) % 64)) (d ((c + 2 * a) % 64)) (d (((c + a) % 64 + b) % 64)) (d ((c + 2 * b) % 64))))
 
 -- spread by 64 times anything, a row is itself
 spread-whole : (p : ℕ → ℕ) (a b c : ℕ) → c < 64 → spread p (64 * a) (64 * b) c ≡ p c
@@ -101,3 +101,12 @@ module _ (a b : ℕ) where
 
   pub spread-down : (p : ℕ → ℕ) → ((c : ℕ) → p c < 2) → (c : ℕ) → c < 64 → spread (down 6 1 p) a b c ≡ p c
   spread-down p d c h = ap (λ q. q c) (once (down 6 1 p) ∙ by-down 6 1 p d) ∙ spread-whole p a b c h
+
+  -- a row that is spread on as `down` does, and one whose spreading is p
+  pub down-next : (n m : ℕ) (p q r : ℕ → ℕ) → ((c : ℕ) → c < 64 → q c ≡ down n (2 * m) p c)
+      → ((c : ℕ) → c < 64 → r c ≡ spread q (m * a) (m * b) c) → (c : ℕ) → c < 64 → r c ≡ down (suc n) m p c
+  down-next n m p q r eq er c h = er c h ∙ spread-same q (down n (2 * m) p) eq (m * a) (m * b) c h
+
+  pub spread-back : (p r : ℕ → ℕ) → ((c : ℕ) → p c < 2) → ((c : ℕ) → c < 64 → r c ≡ down 6 1 p c)
+      → (c : ℕ) → c < 64 → spread r a b c ≡ p c
+  spread-back p r d e c h = spread-same r (down 6 1 p) e a b c h ∙ spread-down p d c h

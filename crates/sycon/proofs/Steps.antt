@@ -28,6 +28,10 @@ on-pack step r f d = pack-same (step (bits (pack f))) (step f) (r (bits (pack f)
 pub stepped : (step : Bits → Bits) → Respects step → (f g : Bits) → Digits f → Same g (step f) → pack g ≡ on-state step (pack f)
 stepped step r f g d e = pack-same g (step f) e ∙ sym (on-pack step r f d)
 
+-- and one whose bits become such that the step makes f of them took it back
+pub stepped-back : (step : Bits → Bits) → Respects step → (f g : Bits) → Digits g → Same (step g) f → on-state step (pack g) ≡ pack f
+stepped-back step r f g d e = on-pack step r g d ∙ pack-same (step g) f e
+
 pub digits-bits : (s : List ℕ) → Digits (bits s)
 unfolding bits
 digits-bits s j c = bit-digit (getD s (8 * j + c / 8) 0) (c % 8)

@@ -4,7 +4,6 @@ ghost use Prim.Native.Nat.{ℕ};
 ghost use Rattle.sycon.specs.Laws.{One-to-one, Onto};
 ghost use Rattle.sycon.specs.Permutation.{permuted};
 ghost use mathlib.Core.Path.{_≡_};
-
 use crate::engine::Engine;
 use crate::engine::TwoWay;
 

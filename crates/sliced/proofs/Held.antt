@@ -15,7 +15,7 @@ use Rattle.sycon.proofs.Digits.{bit-digit, bit-shr, bit-mod}
 use Rattle.sycon.proofs.Packing.{pack-at, pack-same, pack-bits, pack-set, state-pack}
 use Rattle.sycon.proofs.Steps.{Respects, Digits, stepped, stepped-back}
 use Rattle.sliced.specs.declared.Sliced.{Sliced}
-use Rattle.sliced.specs.Words.{words, word-bits, held, Row, Rows}
+use Rattle.sliced.specs.Words.{words, word-bits, held, Rows}
 
 pub by-word : (P : ℕ → Type 0) → P 0 → P 1 → P 2 → P 3 → P 4 → (j : ℕ) → j < 5 → P j
 by-word P p0 p1 p2 p3 p4 zero h = p0
@@ -38,7 +38,9 @@ by-row f g e0 e1 e2 e3 e4 j c hj hc = by-word (λ j. (c : ℕ) → c < 64 → f 
 
 pub held-loaded : (x : Sliced) (s : List ℕ) → State s → Rows x (bits s) → held (words x) ≡ s
 unfolding held
-held-loaded x s st r = pack-same (word-bits (words x)) (bits s) (by-row (word-bits (words x)) (bits s) (r .0) (r .1) (r .2) (r .3) (r .4)) ∙ pack-bits s st
+held-loaded x s st r =
+    let f = word-bits (words x) in
+    pack-same f (bits s) (by-row f (bits s) (r .0) (r .1) (r .2) (r .3) (r .4)) ∙ pack-bits s st
 
 -- words whose bits are those of a step
 pub held-step : (step : Bits → Bits) → Respects step → (ws vs : List ℕ) → Same (word-bits vs) (step (word-bits ws))

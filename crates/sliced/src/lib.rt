@@ -64,6 +64,7 @@ impl Sliced {
         Self::rows(bytes)
     }
 
+    // The words, each with the columns that the bytes give it.
     fn rows(bytes: &[u8; 40]) -> Self
         ensures { λ r. ⌜ Rows r (bits (now (bytes .entry))) ⌝ }
     {
@@ -90,6 +91,7 @@ impl Sliced {
         }
     }
 
+    // Word j becomes x; past the last word nothing does.
     fn set_word(&mut self, j: usize, x: u64)
         ensures { λ _. ⌜ words (now (self .exit)) ≡ set (words (now (self .entry))) j x ⌝ }
     {
@@ -103,6 +105,7 @@ impl Sliced {
         }
     }
 
+    // Byte k of the state stands in word k / 8.
     fn read(&self, k: usize) -> u8
         ensures { λ r. ⌜ r ≡ getD (meant (now (self .entry))) k 0 ⌝ }
     {
@@ -136,12 +139,14 @@ impl Sliced {
         self.arrange();
     }
 
+    // Step 1.
     fn substitute(&mut self)
         ensures { λ _. ⌜ meant (now (self .exit)) ≡ on-state substituted (meant (now (self .entry))) ⌝ }
     {
         *self = sbox(self.a0, self.a1, self.a2, self.a3, self.a4);
     }
 
+    // Step 2.
     fn diffuse(&mut self)
         ensures { λ _. ⌜ meant (now (self .exit)) ≡ on-state diffused (meant (now (self .entry))) ⌝ }
     {
@@ -154,6 +159,7 @@ impl Sliced {
         };
     }
 
+    // Step 3.
     fn add_constant(&mut self, i: usize)
         requires { ⌜ i < 14 ⌝ }
         ensures { λ _. ⌜ meant (now (self .exit)) ≡ on-state (added i) (meant (now (self .entry))) ⌝ }
@@ -161,6 +167,7 @@ impl Sliced {
         self.a2 ^= row::constant(i);
     }
 
+    // Step 4.
     fn arrange(&mut self)
         ensures { λ _. ⌜ meant (now (self .exit)) ≡ on-state arranged (meant (now (self .entry))) ⌝ }
     {
@@ -193,6 +200,7 @@ impl Sliced {
         self.unsubstitute();
     }
 
+    // Step 4, taken back.
     fn unarrange(&mut self)
         ensures { λ _. ⌜ on-state arranged (meant (now (self .exit))) ≡ meant (now (self .entry)) ⌝ }
     {
@@ -205,6 +213,7 @@ impl Sliced {
         };
     }
 
+    // Step 3, taken back: a constant XORed twice is gone.
     fn remove_constant(&mut self, i: usize)
         requires { ⌜ i < 14 ⌝ }
         ensures { λ _. ⌜ on-state (added i) (meant (now (self .exit))) ≡ meant (now (self .entry)) ⌝ }
@@ -212,6 +221,7 @@ impl Sliced {
         self.add_constant(i);
     }
 
+    // Step 2, taken back.
     fn undiffuse(&mut self)
         ensures { λ _. ⌜ on-state diffused (meant (now (self .exit))) ≡ meant (now (self .entry)) ⌝ }
     {
@@ -224,6 +234,7 @@ impl Sliced {
         };
     }
 
+    // Step 1, taken back.
     fn unsubstitute(&mut self)
         ensures { λ _. ⌜ on-state substituted (meant (now (self .exit))) ≡ meant (now (self .entry)) ⌝ }
     {

@@ -28,7 +28,8 @@ const CONSTANT_BYTES: [u8; 14] = [
     0x1F,
 ];
 
-// For each word the terms (k, mask) of step 4: a column that the mask has comes from the column k to its right.
+// For each word the terms (k, mask) of step 4: column c, where the mask has it, comes from column c + k.
+// The term (0, 0) adds nothing.
 pub const ARRANGEMENT: [[(u32, u64); 7]; 5] = [
     [
         (3, 0x0000_E000_00FF_1F00),
@@ -169,7 +170,8 @@ pub fn diffuse(x: u64, j: usize) -> u64
     xor_rotated(x, FIRST_ROTATION[j], SECOND_ROTATION[j])
 }
 
-// The word XORed with two left rotations of its row. In a row column 0 stands first, so that is a right rotation of the number.
+// The word XORed with two left rotations of its row. Column 0 stands first in a row and is the lowest bit of the number,
+// so the number rotates to the right.
 fn xor_rotated(x: u64, a: u32, b: u32) -> u64
     ensures { λ r. ⌜ ((c : ℕ) → c < 64 → bit r c ≡ spread (bit x) a b c) ⌝ }
 {
@@ -198,6 +200,7 @@ fn xor_rotated_back(x: u64, a: u32, b: u32) -> u64
     xor_rotated_times(x2, 1, a, b)
 }
 
+// `xor_rotated`, done m times for an m that is a power of two.
 fn xor_rotated_times(x: u64, m: u32, a: u32, b: u32) -> u64
     requires { ⌜ m < 64 ⌝ ∗ ⌜ a < 64 ⌝ ∗ ⌜ b < 64 ⌝ }
     ensures { λ r. ⌜ ((c : ℕ) → c < 64 → bit r c ≡ spread (bit x) (m * a) (m * b) c) ⌝ }
@@ -213,7 +216,7 @@ pub fn constant(i: usize) -> u64
     0xAAAA_AAAA_AAAA_AA00 + CONSTANT_BYTES[i] as u64
 }
 
-// The word's rotations by these amounts, each cut down to its mask, in one.
+// Rotations of the word, each cut down to its mask, in one word.
 pub fn gather(x: u64, terms: &[(u32, u64)]) -> u64
     ensures { λ r. ⌜ ((c : ℕ) → c < 64 → bit r c ≡ gathered (now (terms .entry)) (bit x) c) ⌝ }
 {

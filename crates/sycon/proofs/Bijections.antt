@@ -6,18 +6,18 @@ use Prim.Native.Nat.{ℕ, zero, suc, _+_, _-_, _*_, _/_, _%_, _<_, min}
 use native.Mathlib.Nat.{mod-eq-of-lt}
 use native.Mathlib.Omega.{arith}
 use lib.Bits.{bitXor, xor-assoc, xor-self, xor-zero-r}
-use lib.Dec.{T, eqb, eqb→eq, ltb, ltb→lt, lit<}
+use lib.Dec.{T, eqb, eqb→eq, ltb, ltb→lt}
 use lib.ListN.{getD}
 use Rattle.sycon.specs.Laws.{One-to-one, Onto}
-use Rattle.sycon.specs.Permutation.{State, Bits, bit, bits, pack, of-word, sbox, column, substituted}
-use Rattle.sycon.specs.Permutation.{first-rotation, second-rotation, diffused, round-constant, added}
+use Rattle.sycon.specs.Permutation.{State, Bits, bit, bits, of-word, sbox, column, substituted}
+use Rattle.sycon.specs.Permutation.{first-rotation, second-rotation, diffused, added}
 use Rattle.sycon.specs.Permutation.{quarter-turn, byte-places, turned, origin, arranged, round, rounds, permuted}
-use Rattle.sycon.specs.Steps.{Same, spread, on-state, four-steps}
+use Rattle.sycon.specs.Steps.{Same, on-state}
 use Rattle.sycon.proofs.Digits.{bit-digit}
-use Rattle.sycon.proofs.Packing.{number, number-same, number-bits, number-below, bit-number, pack-same, pack-bits, state-pack}
-use Rattle.sycon.proofs.Spreading.{up, down, digits-up, digits-down, up-same, down-same, up-undoes, spread-down}
-use Rattle.sycon.proofs.Steps.{Respects, Digits, on-pack, column-same, digits-bits, digits-substituted, digits-diffused, digits-added}
-use Rattle.sycon.proofs.Steps.{respects-substituted, respects-diffused, respects-added, respects-arranged, origin-below, round-steps}
+use Rattle.sycon.proofs.Packing.{number, number-bits, number-below, bit-number, pack-same, pack-bits, state-pack}
+use Rattle.sycon.proofs.Spreading.{up, down, digits-down, up-same, up-undoes, spread-down}
+use Rattle.sycon.proofs.Steps.{Respects, Digits, on-pack, column-same, digits-bits, digits-diffused, digits-added}
+use Rattle.sycon.proofs.Steps.{respects-diffused, respects-added, respects-arranged, round-steps}
 use Rattle.sycon.proofs.Tests.{every, at}
 
 -- q takes back what p does

@@ -19,7 +19,7 @@ unfolding cancels
 cross-terms x a b aa ab bb hx ha hb haa hab hbb =
     eqb→eq _ _ (at-digits (cancels x) (at 2 (λ x. digitwise (cancels x)) tt x hx) a b aa ab bb ha hb haa hab hbb)
 
-pub digits-spread : (p : ℕ → ℕ) → ((c : ℕ) → p c < 2) → (a b c : ℕ) → spread p a b c < 2
+digits-spread : (p : ℕ → ℕ) → ((c : ℕ) → p c < 2) → (a b c : ℕ) → spread p a b c < 2
 digits-spread p d a b c = xor-lt 1 _ _ (xor-lt 1 _ _ (d _) (d _)) (d _)
 
 -- what a row is spread to hangs on its 64 columns alone
@@ -63,10 +63,6 @@ module _ (a b : ℕ) where
   down zero m p = p
   down (suc n) m p = by m (down n (2 * m) p)
 
-  pub digits-up : (n m : ℕ) (p : ℕ → ℕ) → ((c : ℕ) → p c < 2) → (c : ℕ) → up n m p c < 2
-  digits-up zero m p d = d
-  digits-up (suc n) m p d = digits-up n (2 * m) (by m p) (digits-spread p d (m * a) (m * b))
-
   pub digits-down : (n m : ℕ) (p : ℕ → ℕ) → ((c : ℕ) → p c < 2) → (c : ℕ) → down n m p c < 2
   digits-down zero m p d = d
   digits-down (suc n) m p d = digits-spread (down n (2 * m) p) (digits-down n (2 * m) p d) (m * a) (m * b)
@@ -74,10 +70,6 @@ module _ (a b : ℕ) where
   pub up-same : (n m : ℕ) (p q : ℕ → ℕ) → ((c : ℕ) → c < 64 → p c ≡ q c) → (c : ℕ) → c < 64 → up n m p c ≡ up n m q c
   up-same zero m p q e = e
   up-same (suc n) m p q e = up-same n (2 * m) (by m p) (by m q) (spread-same p q e (m * a) (m * b))
-
-  pub down-same : (n m : ℕ) (p q : ℕ → ℕ) → ((c : ℕ) → c < 64 → p c ≡ q c) → (c : ℕ) → c < 64 → down n m p c ≡ down n m q c
-  down-same zero m p q e = e
-  down-same (suc n) m p q e = spread-same (down n (2 * m) p) (down n (2 * m) q) (down-same n (2 * m) p q e) (m * a) (m * b)
 
   -- one more at either end gives the double
   up-by : (n m : ℕ) (p : ℕ → ℕ) → ((c : ℕ) → p c < 2) → up n m (by m p) ≡ by (2 ^ n * m) p

@@ -1,5 +1,5 @@
 use mathlib.Core.Path.{_≡_, sym, ap, _∙_}
-use Prim.Native.Nat.{suc, _-_, min}
+use Prim.Native.Nat.{suc, _-_}
 use native.Mathlib.Omega.{arith}
 use Rattle.sycon.specs.Permutation.{permuted, rounds, round}
 use Rattle.sycon.proofs.Steps.{round-steps}

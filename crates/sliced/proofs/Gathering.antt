@@ -6,7 +6,7 @@ use Prim.Native.Nat.{ℕ, zero, suc, _+_, _%_, _<_}
 use native.Mathlib.Omega.{arith}
 use native.Mathlib.Nat.{mod-eq-of-lt}
 use lib.Bits.{bitAnd, bitXor, and-zero-r, xor-zero-r, and-mask}
-use lib.Dec.{T, eqb, eqb→eq}
+use lib.Dec.{T, eqb, eqb→eq, ltb, ltb→lt}
 use lib.ListN.{length, getD, take}
 use Rattle.std.proofs.shelf.Sums.{folded-more}
 use Rattle.std.specs.Iters.{folded}
@@ -78,8 +78,9 @@ pub gathered-more : (row : ℕ → ℕ) (c : ℕ) (ts : List (ℕ × ℕ)) (i : 
 unfolding gathered
 gathered-more row c ts i h = folded-more (step row c) 0 ts i (0, 0) h
 
--- terms that lead everywhere where `route` says, by one test of the 64 columns
-pub gathered-along : (route : ℕ → ℕ) (x r : ℕ) (ts : List (ℕ × ℕ)) → ((c : ℕ) → c < 64 → bit r c ≡ gathered ts (bit x) c)
-    → T (every 64 (λ c. leads ts c (route c))) → (c : ℕ) → c < 64 → bit r c ≡ bit x (route c)
-gathered-along route x r ts e t c h =
-    e c h ∙ gathered-from (bit x) c (bit-digit x) ts (route c) (at 64 (λ c. leads ts c (route c)) t c h)
+-- terms that bring column `from c` to column `to c`, by one test of the 64 columns
+pub gathered-along : (to from : ℕ → ℕ) (x r : ℕ) (ts : List (ℕ × ℕ)) → ((c : ℕ) → c < 64 → bit r c ≡ gathered ts (bit x) c)
+    → T (every 64 (λ c. ltb (to c) 64 && leads ts (to c) (from c))) → (c : ℕ) → c < 64 → bit r (to c) ≡ bit x (from c)
+gathered-along to from x r ts e t c h =
+    let (low, led) = both (ltb (to c) 64) (leads ts (to c) (from c)) (at 64 (λ c. ltb (to c) 64 && leads ts (to c) (from c)) t c h) in
+    e (to c) (ltb→lt (to c) 64 low) ∙ gathered-from (bit x) (to c) (bit-digit x) ts (from c) led

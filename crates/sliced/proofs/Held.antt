@@ -13,9 +13,9 @@ use Rattle.sycon.specs.Permutation.{State, Bits, bit, bits}
 use Rattle.sycon.specs.Steps.{Same, on-state}
 use Rattle.sycon.proofs.Digits.{bit-digit, bit-shr, bit-mod}
 use Rattle.sycon.proofs.Packing.{pack-at, pack-same, pack-bits, pack-set, state-pack}
-use Rattle.sycon.proofs.Steps.{Respects, Digits, stepped}
+use Rattle.sycon.proofs.Steps.{Respects, Digits, stepped, stepped-back}
 use Rattle.sliced.specs.declared.Sliced.{Sliced}
-use Rattle.sliced.specs.Words.{words, word-bits, held, Row, Rows}
+use Rattle.sliced.specs.Words.{words, word-bits, held, Rows}
 
 pub by-word : (P : ℕ → Type 0) → P 0 → P 1 → P 2 → P 3 → P 4 → (j : ℕ) → j < 5 → P j
 by-word P p0 p1 p2 p3 p4 zero h = p0
@@ -32,18 +32,27 @@ pub held-state : (ws : List ℕ) → State (held ws)
 unfolding held
 held-state ws = state-pack (word-bits ws) (digits ws)
 
-pub rows-same : (x : Sliced) (f : Bits) → Rows x f → Same (word-bits (words x)) f
-rows-same x f r j c hj hc = by-word (λ j. Row (getD (words x) j 0) f j) (r .0) (r .1) (r .2) (r .3) (r .4) j hj c hc
+pub by-row : (f g : Bits) → ((c : ℕ) → c < 64 → f 0 c ≡ g 0 c) → ((c : ℕ) → c < 64 → f 1 c ≡ g 1 c)
+    → ((c : ℕ) → c < 64 → f 2 c ≡ g 2 c) → ((c : ℕ) → c < 64 → f 3 c ≡ g 3 c) → ((c : ℕ) → c < 64 → f 4 c ≡ g 4 c) → Same f g
+by-row f g e0 e1 e2 e3 e4 j c hj hc = by-word (λ j. (c : ℕ) → c < 64 → f j c ≡ g j c) e0 e1 e2 e3 e4 j hj c hc
 
 pub held-loaded : (x : Sliced) (s : List ℕ) → State s → Rows x (bits s) → held (words x) ≡ s
 unfolding held
-held-loaded x s st r = pack-same (word-bits (words x)) (bits s) (rows-same x (bits s) r) ∙ pack-bits s st
+held-loaded x s st r =
+    let f = word-bits (words x) in
+    pack-same f (bits s) (by-row f (bits s) (r .0) (r .1) (r .2) (r .3) (r .4)) ∙ pack-bits s st
 
 -- words whose bits are those of a step
 pub held-step : (step : Bits → Bits) → Respects step → (ws vs : List ℕ) → Same (word-bits vs) (step (word-bits ws))
     → held vs ≡ on-state step (held ws)
 unfolding held
 held-step step r ws vs e = stepped step r (word-bits ws) (word-bits vs) (digits ws) e
+
+-- words of which a step makes the present ones
+pub held-step-back : (step : Bits → Bits) → Respects step → (ws vs : List ℕ) → Same (step (word-bits vs)) (word-bits ws)
+    → on-state step (held vs) ≡ held ws
+unfolding held
+held-step-back step r ws vs e = stepped-back step r (word-bits ws) (word-bits vs) (digits vs) e
 
 -- one byte read
 held-byte-in : (ws : List ℕ) (k : ℕ) → k < 40 → getD (held ws) k 0 ≡ getD ws (k / 8) 0 / 2 ^ (8 * (k % 8)) % 256

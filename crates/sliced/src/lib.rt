@@ -11,6 +11,7 @@ ghost use mathlib.Core.Path.{_≡_};
 mod row;
 
 use sycon::engine::Engine;
+use sycon::engine::TwoWay;
 
 /// The words A_0 to A_4. Loaded from the lowest byte up, a word has its column c as its bit c.
 #[derive(Drop)]
@@ -42,6 +43,12 @@ pub impl Engine for Sliced as SlicedEngine {
     }
 }
 
+pub impl TwoWay for Sliced as SlicedTwoWay {
+    fn turn_back(&mut self, r: usize) {
+        self.run_back(r.min(14));
+    }
+}
+
 impl Sliced {
     /// All 40 bytes are zero.
     pub fn new() -> Self
@@ -57,6 +64,7 @@ impl Sliced {
         Self::rows(bytes)
     }
 
+    // The words, each with the columns that the bytes give it.
     fn rows(bytes: &[u8; 40]) -> Self
         ensures { λ r. ⌜ Rows r (bits (now (bytes .entry))) ⌝ }
     {
@@ -83,6 +91,7 @@ impl Sliced {
         }
     }
 
+    // Word j becomes x; past the last word nothing does.
     fn set_word(&mut self, j: usize, x: u64)
         ensures { λ _. ⌜ words (now (self .exit)) ≡ set (words (now (self .entry))) j x ⌝ }
     {
@@ -96,6 +105,7 @@ impl Sliced {
         }
     }
 
+    // Byte k of the state stands in word k / 8.
     fn read(&self, k: usize) -> u8
         ensures { λ r. ⌜ r ≡ getD (meant (now (self .entry))) k 0 ⌝ }
     {
@@ -129,12 +139,14 @@ impl Sliced {
         self.arrange();
     }
 
+    // Step 1.
     fn substitute(&mut self)
         ensures { λ _. ⌜ meant (now (self .exit)) ≡ on-state substituted (meant (now (self .entry))) ⌝ }
     {
         *self = sbox(self.a0, self.a1, self.a2, self.a3, self.a4);
     }
 
+    // Step 2.
     fn diffuse(&mut self)
         ensures { λ _. ⌜ meant (now (self .exit)) ≡ on-state diffused (meant (now (self .entry))) ⌝ }
     {
@@ -147,6 +159,7 @@ impl Sliced {
         };
     }
 
+    // Step 3.
     fn add_constant(&mut self, i: usize)
         requires { ⌜ i < 14 ⌝ }
         ensures { λ _. ⌜ meant (now (self .exit)) ≡ on-state (added i) (meant (now (self .entry))) ⌝ }
@@ -154,6 +167,7 @@ impl Sliced {
         self.a2 ^= row::constant(i);
     }
 
+    // Step 4.
     fn arrange(&mut self)
         ensures { λ _. ⌜ meant (now (self .exit)) ≡ on-state arranged (meant (now (self .entry))) ⌝ }
     {
@@ -164,6 +178,67 @@ impl Sliced {
             a3: row::gather(self.a3, &row::ARRANGEMENT[3]),
             a4: row::gather(self.a4, &row::ARRANGEMENT[4]),
         };
+    }
+
+    // The rounds n - 1 to 0, taken back.
+    fn run_back(&mut self, n: usize)
+        requires { ⌜ n ≤ 14 ⌝ }
+        ensures { λ _. ⌜ ((r : ℕ) → n ≡ min r 14 → permuted r (meant (now (self .exit))) ≡ meant (now (self .entry))) ⌝ }
+    {
+        for i in (0..n).rev() {
+            self.round_back(i);
+        }
+    }
+
+    fn round_back(&mut self, i: usize)
+        requires { ⌜ i < 14 ⌝ }
+        ensures { λ _. ⌜ four-steps i (meant (now (self .exit))) ≡ meant (now (self .entry)) ⌝ }
+    {
+        self.unarrange();
+        self.remove_constant(i);
+        self.undiffuse();
+        self.unsubstitute();
+    }
+
+    // Step 4, taken back.
+    fn unarrange(&mut self)
+        ensures { λ _. ⌜ on-state arranged (meant (now (self .exit))) ≡ meant (now (self .entry)) ⌝ }
+    {
+        *self = Sliced {
+            a0: row::gather(self.a0, &row::UNARRANGEMENT[0]),
+            a1: row::gather(self.a1, &row::UNARRANGEMENT[1]),
+            a2: row::gather(self.a2, &row::UNARRANGEMENT[2]),
+            a3: row::gather(self.a3, &row::UNARRANGEMENT[3]),
+            a4: row::gather(self.a4, &row::UNARRANGEMENT[4]),
+        };
+    }
+
+    // Step 3, taken back: a constant XORed twice is gone.
+    fn remove_constant(&mut self, i: usize)
+        requires { ⌜ i < 14 ⌝ }
+        ensures { λ _. ⌜ on-state (added i) (meant (now (self .exit))) ≡ meant (now (self .entry)) ⌝ }
+    {
+        self.add_constant(i);
+    }
+
+    // Step 2, taken back.
+    fn undiffuse(&mut self)
+        ensures { λ _. ⌜ on-state diffused (meant (now (self .exit))) ≡ meant (now (self .entry)) ⌝ }
+    {
+        *self = Sliced {
+            a0: row::undiffuse(self.a0, 0),
+            a1: row::undiffuse(self.a1, 1),
+            a2: row::undiffuse(self.a2, 2),
+            a3: row::undiffuse(self.a3, 3),
+            a4: row::undiffuse(self.a4, 4),
+        };
+    }
+
+    // Step 1, taken back.
+    fn unsubstitute(&mut self)
+        ensures { λ _. ⌜ on-state substituted (meant (now (self .exit))) ≡ meant (now (self .entry)) ⌝ }
+    {
+        *self = inverse_sbox(self.a0, self.a1, self.a2, self.a3, self.a4);
     }
 }
 
@@ -182,4 +257,18 @@ fn sbox(a0: u64, a1: u64, a2: u64, a3: u64, a4: u64) -> Sliced
         a3: (!t0 & a3) ^ a0 ^ !a2,
         a4: (!a4 & a0) ^ t2,
     }
+}
+
+// The words that the S-box takes to these.
+fn inverse_sbox(b0: u64, b1: u64, b2: u64, b3: u64, b4: u64) -> Sliced
+    ensures { λ r. ⌜ on-state substituted (meant r) ≡ held (b0 ∷ b1 ∷ b2 ∷ b3 ∷ b4 ∷ []) ⌝ }
+{
+    let t0 = b0 ^ b3;
+    let t1 = t0 ^ b1;
+    let a0 = !((b1 | b3) ^ b2 ^ ((t1 & !b3) | b4));
+    let a3 = !(a0 | b4) ^ t1;
+    let a4 = (a3 & t0) ^ a0 ^ b0;
+    let a1 = (!a4 & a0) ^ a3 ^ b4;
+    let a2 = !a4 ^ t0 ^ (!a1 & a3);
+    Sliced { a0, a1, a2, a3, a4 }
 }

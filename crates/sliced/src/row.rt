@@ -1,8 +1,9 @@
 //! The steps on one word.
 
 ghost use Prim.Native.Nat.{ℕ, _+_, _*_, _/_, _%_, _^_, _<_};
-ghost use Rattle.sliced.specs.Rows.{gathered, spread};
+ghost use Rattle.sliced.specs.Rows.{gathered};
 ghost use Rattle.sycon.specs.Permutation.{bit, bits, constant-bytes, first-rotation, of-word, second-rotation};
+ghost use Rattle.sycon.specs.Steps.{spread};
 ghost use lib.ListN.{getD};
 ghost use mathlib.Core.Path.{_≡_};
 
@@ -27,7 +28,8 @@ const CONSTANT_BYTES: [u8; 14] = [
     0x1F,
 ];
 
-// For each word the terms (k, mask) of step 4: a column that the mask has comes from the column k to its right.
+// For each word the terms (k, mask) of step 4: column c, where the mask has it, comes from column c + k.
+// The term (0, 0) adds nothing.
 pub const ARRANGEMENT: [[(u32, u64); 7]; 5] = [
     [
         (3, 0x0000_E000_00FF_1F00),
@@ -76,6 +78,55 @@ pub const ARRANGEMENT: [[(u32, u64); 7]; 5] = [
     ],
 ];
 
+// The terms that take step 4 back.
+pub const UNARRANGEMENT: [[(u32, u64); 7]; 5] = [
+    [
+        (5, 0x0000_0007_0000_0000),
+        (13, 0x07F8_0000_0000_0007),
+        (21, 0x0000_0000_F800_0000),
+        (37, 0x0000_0000_0007_0000),
+        (45, 0xF800_0000_0000_0000),
+        (53, 0x0000_FFF8_0000_07F8),
+        (61, 0x0007_0000_07F8_F800),
+    ],
+    [
+        (4, 0x0000_0FF0_F000_F000),
+        (12, 0x0000_F000_0000_0000),
+        (20, 0x0FF0_0000_000F_000F),
+        (28, 0xF000_000F_0FF0_0000),
+        (44, 0x000F_0000_0000_0000),
+        (60, 0x0000_0000_0000_0FF0),
+        (0, 0),
+    ],
+    [
+        (6, 0x0003_0000_0000_0000),
+        (14, 0x03FC_0000_0000_0000),
+        (30, 0x0000_0000_0000_FFFC),
+        (38, 0x0000_FC00_03FC_0000),
+        (46, 0x0000_0000_FC00_0003),
+        (54, 0xFC00_03FF_0000_0000),
+        (62, 0x0000_0000_0003_0000),
+    ],
+    [
+        (9, 0x0000_0000_007F_0000),
+        (25, 0x0000_0000_0000_7F80),
+        (33, 0x0000_FF80_0000_0000),
+        (41, 0x8000_0000_7F80_8000),
+        (49, 0x0000_007F_0000_0000),
+        (57, 0x7FFF_0000_8000_007F),
+        (0, 0),
+    ],
+    [
+        (3, 0x0000_001F_0000_E000),
+        (19, 0x1FE0_1FE0_0000_1FFF),
+        (27, 0x0000_0000_1FE0_0000),
+        (35, 0x0000_0000_E000_0000),
+        (43, 0xE000_0000_0000_0000),
+        (51, 0x0000_E000_001F_0000),
+        (59, 0x001F_0000_0000_0000),
+    ],
+];
+
 // Word j of a state.
 pub fn load(bytes: &[u8; 40], j: usize) -> u64
     requires { ⌜ j < 5 ⌝ }
@@ -119,11 +170,42 @@ pub fn diffuse(x: u64, j: usize) -> u64
     xor_rotated(x, FIRST_ROTATION[j], SECOND_ROTATION[j])
 }
 
-// The word XORed with two left rotations of its row. In a row column 0 stands first, so that is a right rotation of the number.
+// The word XORed with two left rotations of its row. Column 0 stands first in a row and is the lowest bit of the number,
+// so the number rotates to the right.
 fn xor_rotated(x: u64, a: u32, b: u32) -> u64
     ensures { λ r. ⌜ ((c : ℕ) → c < 64 → bit r c ≡ spread (bit x) a b c) ⌝ }
 {
     x ^ x.rotate_right(a) ^ x.rotate_right(b)
+}
+
+// Step 2 on word j, taken back.
+pub fn undiffuse(x: u64, j: usize) -> u64
+    requires { ⌜ j < 5 ⌝ }
+    ensures { λ r. ⌜ ((c : ℕ) → c < 64 → spread (bit r) (of-word first-rotation j) (of-word second-rotation j) c ≡ bit x c) ⌝ }
+{
+    xor_rotated_back(x, FIRST_ROTATION[j], SECOND_ROTATION[j])
+}
+
+// The word whose `xor_rotated` is `x`. That map done twice is the same map with both amounts doubled, since the terms
+// with both rotations cancel; so 64 times it is the identity, and 63 times it takes itself back.
+fn xor_rotated_back(x: u64, a: u32, b: u32) -> u64
+    requires { ⌜ a < 64 ⌝ ∗ ⌜ b < 64 ⌝ }
+    ensures { λ r. ⌜ ((c : ℕ) → c < 64 → spread (bit r) a b c ≡ bit x c) ⌝ }
+{
+    let x32 = xor_rotated_times(x, 32, a, b);
+    let x16 = xor_rotated_times(x32, 16, a, b);
+    let x8 = xor_rotated_times(x16, 8, a, b);
+    let x4 = xor_rotated_times(x8, 4, a, b);
+    let x2 = xor_rotated_times(x4, 2, a, b);
+    xor_rotated_times(x2, 1, a, b)
+}
+
+// `xor_rotated`, done m times for an m that is a power of two.
+fn xor_rotated_times(x: u64, m: u32, a: u32, b: u32) -> u64
+    requires { ⌜ m < 64 ⌝ ∗ ⌜ a < 64 ⌝ ∗ ⌜ b < 64 ⌝ }
+    ensures { λ r. ⌜ ((c : ℕ) → c < 64 → bit r c ≡ spread (bit x) (m * a) (m * b) c) ⌝ }
+{
+    xor_rotated(x, m * a, m * b)
 }
 
 // The constant of round i.
@@ -134,7 +216,7 @@ pub fn constant(i: usize) -> u64
     0xAAAA_AAAA_AAAA_AA00 + CONSTANT_BYTES[i] as u64
 }
 
-// The word's rotations by these amounts, each cut down to its mask, in one.
+// Rotations of the word, each cut down to its mask, in one word.
 pub fn gather(x: u64, terms: &[(u32, u64)]) -> u64
     ensures { λ r. ⌜ ((c : ℕ) → c < 64 → bit r c ≡ gathered (now (terms .entry)) (bit x) c) ⌝ }
 {

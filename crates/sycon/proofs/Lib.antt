@@ -1,5 +1,7 @@
+pub mod Bijections
 pub mod Digits
 pub mod Lengths
 pub mod Packing
+pub mod Spreading
 pub mod Steps
 pub mod Tests

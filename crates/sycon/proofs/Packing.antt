@@ -18,7 +18,7 @@ use Rattle.sycon.specs.Steps.{Same}
 use Rattle.sycon.proofs.Digits.{bit-low, bit-high, bit-shr}
 
 -- the number that has n given digits, the lowest first
-pub number : ℕ → (ℕ → ℕ) → ℕ
+unfoldable pub number : ℕ → (ℕ → ℕ) → ℕ
 number zero g = 0
 number (suc n) g = g 0 + 2 * number n (λ i. g (suc i))
 
@@ -44,7 +44,7 @@ next-bit d x i h =
     let e : d + 2 * x ≡ x * 2 ^ 1 + d = omega arith in
     ap₂ bit e (sym (one-add i)) ∙ bit-high 1 d x i h
 
-bit-number : (n : ℕ) (g : ℕ → ℕ) → ((i : ℕ) → g i < 2) → (i : ℕ) → i < n → bit (number n g) i ≡ g i
+pub bit-number : (n : ℕ) (g : ℕ → ℕ) → ((i : ℕ) → g i < 2) → (i : ℕ) → i < n → bit (number n g) i ≡ g i
 unfolding number
 bit-number zero g d i h = absurd (not-suc-le-zero h)
 bit-number (suc n) g d zero h = first-bit (g 0) (number n (λ i. g (suc i))) (d 0)
@@ -65,7 +65,7 @@ packed-is : (f : Bits) (k : ℕ) → packed f k ≡ number 8 (λ i. f (k / 8) (8
 unfolding packed number
 packed-is f k = omega arith
 
-number-below : (n : ℕ) (g : ℕ → ℕ) → ((i : ℕ) → g i < 2) → number n g < 2 ^ n
+pub number-below : (n : ℕ) (g : ℕ → ℕ) → ((i : ℕ) → g i < 2) → number n g < 2 ^ n
 unfolding number
 number-below zero g d = lit< tt
 number-below (suc n) g d =

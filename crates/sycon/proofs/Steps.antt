@@ -6,7 +6,7 @@ use native.Mathlib.Nat.{mod-lt}
 use lib.Bits.{bitXor, xor-lt}
 use lib.Dec.{ltb, ltb→lt, lit<}
 use lib.ListN.{getD}
-use Rattle.sycon.specs.Permutation.{Bits, bit, bits, pack, of-word, column, substituted, diffused, round-constant, added}
+use Rattle.sycon.specs.Permutation.{Bits, bit, bits, pack, of-word, sbox, column, substituted, diffused, round-constant, added}
 use Rattle.sycon.specs.Permutation.{turned, origin, arranged, round}
 use Rattle.sycon.specs.Steps.{Same, on-state, four-steps}
 use Rattle.sycon.proofs.Digits.{bit-digit}
@@ -28,6 +28,10 @@ on-pack step r f d = pack-same (step (bits (pack f))) (step f) (r (bits (pack f)
 pub stepped : (step : Bits → Bits) → Respects step → (f g : Bits) → Digits f → Same g (step f) → pack g ≡ on-state step (pack f)
 stepped step r f g d e = pack-same g (step f) e ∙ sym (on-pack step r f d)
 
+-- and one whose bits become such that the step makes f of them took it back
+pub stepped-back : (step : Bits → Bits) → Respects step → (f g : Bits) → Digits g → Same (step g) f → on-state step (pack g) ≡ pack f
+stepped-back step r f g d e = on-pack step r g d ∙ pack-same (step g) f e
+
 pub digits-bits : (s : List ℕ) → Digits (bits s)
 unfolding bits
 digits-bits s j c = bit-digit (getD s (8 * j + c / 8) 0) (c % 8)
@@ -44,15 +48,19 @@ pub digits-added : (i : ℕ) (f : Bits) → Digits f → Digits (added i f)
 unfolding added
 digits-added i f d j c = xor-lt 1 _ _ (d j c) (bit-digit _ _)
 
-pub respects-substituted : Respects substituted
-unfolding substituted column
-respects-substituted f g e j c hj hc =
-    let e0 : f 0 c ≡ g 0 c = e 0 c (lit< tt) hc in
-    let e1 : f 1 c ≡ g 1 c = e 1 c (lit< tt) hc in
-    let e2 : f 2 c ≡ g 2 c = e 2 c (lit< tt) hc in
-    let e3 : f 3 c ≡ g 3 c = e 3 c (lit< tt) hc in
-    let e4 : f 4 c ≡ g 4 c = e 4 c (lit< tt) hc in
+pub column-same : (f g : Bits) → Same f g → (c : ℕ) → c < 64 → column f c ≡ column g c
+unfolding column
+column-same f g e c h =
+    let e0 : f 0 c ≡ g 0 c = e 0 c (lit< tt) h in
+    let e1 : f 1 c ≡ g 1 c = e 1 c (lit< tt) h in
+    let e2 : f 2 c ≡ g 2 c = e 2 c (lit< tt) h in
+    let e3 : f 3 c ≡ g 3 c = e 3 c (lit< tt) h in
+    let e4 : f 4 c ≡ g 4 c = e 4 c (lit< tt) h in
     cc
+
+pub respects-substituted : Respects substituted
+unfolding substituted
+respects-substituted f g e j c hj hc = ap (λ n. bit (getD sbox n 0) j) (column-same f g e c hc)
 
 pub respects-diffused : Respects diffused
 unfolding diffused

@@ -1,3 +1,4 @@
+pub mod Laws
 pub mod Permutation
 pub mod Published
 pub mod Steps

@@ -1,12 +1,17 @@
 -- A step of the round as a map of states, for engines that take the steps one by one.
 use mathlib.Core.Path.{_≡_}
 use mathlib.Core.List.{List}
-use Prim.Native.Nat.{ℕ, _<_}
+use Prim.Native.Nat.{ℕ, _+_, _%_, _<_}
+use lib.Bits.{bitXor}
 use Rattle.sycon.specs.Permutation.{Bits, bits, pack, substituted, diffused, added, arranged}
 
 -- the same digit in each column of each word
 abbrev pub Same : Bits → Bits → Type 0
 Same f g = (j c : ℕ) → j < 5 → c < 64 → f j c ≡ g j c
+
+-- a row of 64 columns, XORed with its left rotations by a and by b
+abbrev pub spread : (ℕ → ℕ) → ℕ → ℕ → ℕ → ℕ
+spread row a b c = bitXor (bitXor (row c) (row ((c + a) % 64))) (row ((c + b) % 64))
 
 unfoldable pub on-state : (Bits → Bits) → List ℕ → List ℕ
 on-state step s = pack (step (bits s))

@@ -30,3 +30,11 @@ pub trait Engine {
     fn turn(&mut self, r: usize)
         ensures { λ _. ⌜ state (now (self .exit)) ≡ permuted r (state (now (self .entry))) ⌝ };
 }
+
+/// An engine that can also take rounds back.
+pub trait TwoWay: Engine {
+    /// The state becomes the one that the first `r` rounds take to the present state: there is exactly one.
+    /// An `r` above 14 counts as 14.
+    fn turn_back(&mut self, r: usize)
+        ensures { λ _. ⌜ permuted r (Self·Engine .state (now (self .exit))) ≡ Self·Engine .state (now (self .entry)) ⌝ };
+}

@@ -1,4 +1,5 @@
-//! Sycon's permutation as a definition, and the trait of what computes it.
+//! Sycon's permutation as a definition, and the traits of what computes it.
 
 pub mod engine;
+pub mod inverse;
 pub mod published;

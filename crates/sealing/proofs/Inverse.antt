@@ -58,7 +58,8 @@ module _ (t : Setting) (key nonce label sealed seal old before : List ℕ) where
 
   front : (place : List ℕ) → place ≡ text ++ drop (length sealed) old → take (length sealed) place ≡ text
   front place e =
-      ap (take (length sealed)) e ∙ take-at text (drop (length sealed) old) (length sealed) (length-opened t 0 sealed (ready t key nonce label))
+      ap (take (length sealed)) e
+      ∙ take-at text (drop (length sealed) old) (length sealed) (length-opened t 0 sealed (ready t key nonce label))
 
   -- the outcome, by whether the seals are the same
   abbrev outcome : Bool → Answer × List ℕ × List ℕ

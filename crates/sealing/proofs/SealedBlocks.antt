@@ -85,7 +85,8 @@ module _ (t : Setting) where
       let is : eqb (p + 1) (t .block) ≡ true = eq-eqb (p + 1) (t .block) (omega arith) in
       ap (λ b. bitXor (getD s p 0) x ∷ sealed-from t (cond b 0 (p + 1)) ys
       (cond b (permuted (t .rounds) (with-domain 2 (with-byte p x s))) (with-byte p x s))) is
-      ∙ ap (λ w. take 1 w ++ sealed-from t 0 ys (permuted (t .rounds) (with-domain 2 (with-byte p x s)))) (sym (here p x [] s (omega arith)))
+      ∙ ap (λ w. take 1 w ++ sealed-from t 0 ys (permuted (t .rounds) (with-domain 2 (with-byte p x s))))
+      (sym (here p x [] s (omega arith)))
   sealed-full p x (y ∷ xs) ys s h l =
       let ne : eqb (p + 1) (t .block) ≡ false = ne-eqb (p + 1) (t .block) (λ e. omega arith) in
       let m : (p + 1) + suc (length xs) ≤ length (with-byte p x s) = rw (length-set s p (bitXor (getD s p 0) x)) (omega arith) in

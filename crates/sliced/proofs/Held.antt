@@ -14,7 +14,7 @@ use Rattle.sycon.specs.Steps.{Same, on-state}
 use Rattle.sycon.proofs.Digits.{bit-digit, bit-shr, bit-mod}
 use Rattle.sycon.proofs.Packing.{pack-at, pack-same, pack-bits, pack-set, state-pack}
 use Rattle.sycon.proofs.Steps.{Respects, Digits, stepped, stepped-back}
-use Rattle.sliced.specs.declared.Sliced.{Sliced}
+use Rattle.sliced.specs.declared.words.engine.Sliced.{Sliced}
 use Rattle.sliced.specs.Words.{words, word-bits, held, Rows}
 
 pub by-word : (P : ℕ → Type 0) → P 0 → P 1 → P 2 → P 3 → P 4 → (j : ℕ) → j < 5 → P j

@@ -4,7 +4,7 @@ use mathlib.Core.Path.{_≡_}
 use Prim.Native.Nat.{ℕ, _<_}
 use lib.ListN.{getD}
 use Rattle.sycon.specs.Permutation.{Bits, bit, pack}
-use Rattle.sliced.specs.declared.Sliced.{Sliced}
+use Rattle.sliced.specs.declared.words.engine.Sliced.{Sliced}
 
 abbrev pub word-bits : List ℕ → Bits
 word-bits ws j c = bit (getD ws j 0) c

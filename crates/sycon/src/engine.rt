@@ -6,6 +6,9 @@ ghost use lib.ListN.{getD, set};
 ghost use mathlib.Core.List.{List};
 ghost use mathlib.Core.Path.{_≡_};
 
+/// The bytes of a state.
+pub type StateBytes = [u8; 40];
+
 /// An engine means a state of 40 bytes, and can permute it.
 /// No call refuses, and none asks anything of its caller.
 pub trait Engine {
@@ -15,7 +18,7 @@ pub trait Engine {
     law whole: { (x : Self) → State (state x) };
 
     /// The state becomes these bytes.
-    fn load(&mut self, bytes: &[u8; 40])
+    fn load(&mut self, bytes: &StateBytes)
         ensures { λ _. ⌜ state (now (self .exit)) ≡ now (bytes .entry) ⌝ };
 
     /// Byte `k`, or 0 where there is none.

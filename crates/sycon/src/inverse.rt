@@ -7,29 +7,30 @@ ghost use mathlib.Core.Path.{_≡_};
 use crate::engine::Engine;
 use crate::engine::TwoWay;
 
-/// No two states are permuted to the same state.
-pub fn permutation_is_one_to_one()
+/// Turns ahead and back again: the state is what it was, since no two states are permuted to the same.
+pub fn there_and_back<E: TwoWay>(engine: &mut E, ahead: usize)
+    ensures state { λ _. ⌜ E·Engine .state (now (engine .exit)) ≡ E·Engine .state (now (engine .entry)) ⌝ }
+    ensures one_to_one { λ _. ⌜ ((r : ℕ) → One-to-one (permuted r)) ⌝ }
+{
+    permutation_is_one_to_one();
+    engine.turn(ahead);
+    engine.turn_back(ahead);
+}
+
+/// Turns back and ahead again: the state is what it was; each state is what some state is permuted to.
+pub fn back_and_there<E: TwoWay>(engine: &mut E, back: usize)
+    ensures state { λ _. ⌜ E·Engine .state (now (engine .exit)) ≡ E·Engine .state (now (engine .entry)) ⌝ }
+    ensures onto { λ _. ⌜ ((r : ℕ) → Onto (permuted r)) ⌝ }
+{
+    permutation_is_onto();
+    engine.turn_back(back);
+    engine.turn(back);
+}
+
+fn permutation_is_one_to_one()
     ensures { λ _. ⌜ ((r : ℕ) → One-to-one (permuted r)) ⌝ }
 {}
 
-/// Each state is what some state is permuted to.
-pub fn permutation_is_onto()
+fn permutation_is_onto()
     ensures { λ _. ⌜ ((r : ℕ) → Onto (permuted r)) ⌝ }
 {}
-
-/// Turns by `r` rounds and back: the state is what it was.
-pub fn there_and_back<E: TwoWay>(engine: &mut E, r: usize)
-    ensures { λ _. ⌜ E·Engine .state (now (engine .exit)) ≡ E·Engine .state (now (engine .entry)) ⌝ }
-{
-    permutation_is_one_to_one();
-    engine.turn(r);
-    engine.turn_back(r);
-}
-
-/// Turns back by `r` rounds and there again: the state is what it was.
-pub fn back_and_there<E: TwoWay>(engine: &mut E, r: usize)
-    ensures { λ _. ⌜ E·Engine .state (now (engine .exit)) ≡ E·Engine .state (now (engine .entry)) ⌝ }
-{
-    engine.turn_back(r);
-    engine.turn(r);
-}

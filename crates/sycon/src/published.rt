@@ -3,9 +3,10 @@
 ghost use Rattle.sycon.specs.Permutation.{permuted};
 ghost use Rattle.sycon.specs.Published.{example, string};
 ghost use mathlib.Core.Path.{_≡_};
+use super::engine::StateBytes;
 
 /// The published string: what 14 rounds make of 20 bytes 00 followed by 20 bytes AA.
-pub fn published_state() -> [u8; 40]
+pub fn published_state() -> StateBytes
     ensures { λ r. ⌜ r ≡ permuted 14 example ⌝ }
 {
     example_stands();

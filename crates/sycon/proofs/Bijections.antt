@@ -1,10 +1,9 @@
 -- Each step of a round is one-to-one and onto, and so is the permutation.
-use mathlib.Core.Bool.{Bool, cond}
+use mathlib.Core.Bool.{cond}
 use mathlib.Core.List.{List, [], _∷_}
 use mathlib.Core.Path.{_≡_, refl, sym, ap, subst, fun-ext, _∙_}
 use Prim.Native.Nat.{ℕ, zero, suc, _+_, _-_, _*_, _/_, _%_, _<_, min}
 use native.Mathlib.Nat.{mod-eq-of-lt}
-use native.Mathlib.Omega.{arith}
 use lib.Bits.{bitXor, xor-assoc, xor-self, xor-zero-r}
 use lib.Dec.{T, eqb, eqb→eq, ltb, ltb→lt}
 use lib.ListN.{getD}
@@ -14,11 +13,11 @@ use Rattle.sycon.specs.Permutation.{first-rotation, second-rotation, diffused,
 use Rattle.sycon.specs.Permutation.{quarter-turn, byte-places, turned, origin, arranged, round, rounds, permuted}
 use Rattle.sycon.specs.Steps.{Same, on-state}
 use Rattle.sycon.proofs.Digits.{bit-digit}
-use Rattle.sycon.proofs.Packing.{number, number-bits, number-below, bit-number, pack-same, pack-bits, state-pack}
+use Rattle.sycon.proofs.Packing.{number-bits, number-below, bit-number, pack-same, pack-bits, state-pack}
 use Rattle.sycon.proofs.Spreading.{up, down, digits-down, up-same, up-undoes, spread-down}
-use Rattle.sycon.proofs.Steps.{Respects, Digits, on-pack, column-same, digits-bits, digits-diffused, digits-added}
+use Rattle.sycon.proofs.Steps.{Respects, Digits, on-pack, column-is, column-same, digits-bits, digits-diffused, digits-added}
 use Rattle.sycon.proofs.Steps.{respects-diffused, respects-added, respects-arranged, round-steps}
-use Rattle.sycon.proofs.Tests.{every, at}
+use Rattle.sycon.proofs.Tests.{every, at, at-cells}
 
 -- q takes back what p does
 record Undoes (p q : Bits → Bits) : Type 0 where
@@ -49,10 +48,6 @@ xor-twice x y = xor-assoc x y y ∙ ap (bitXor x) (xor-self y) ∙ xor-zero-r x
 -- step 1: a substitution of columns, as `substituted` is one
 through : (ℕ → ℕ) → Bits → Bits
 through table f j c = bit (table (column f c)) j
-
-column-is : (f : Bits) (c : ℕ) → column f c ≡ number 5 (λ j. f j c)
-unfolding column number
-column-is f c = omega arith
 
 module _ (p q : ℕ → ℕ) (small : (n : ℕ) → n < 32 → p n < 32) (inverse : (n : ℕ) → n < 32 → q (p n) ≡ n) where
   through-back : (f : Bits) → Digits f → Same (through q (through p f)) f
@@ -139,20 +134,17 @@ arrival j c =
 unarranged : Bits → Bits
 unarranged f j c = f j (arrival j c)
 
-in-cells : (p : ℕ → ℕ → Bool) → T (every 5 (λ j. every 64 (p j))) → (j c : ℕ) → j < 5 → c < 64 → T (p j c)
-in-cells p t j c hj hc = at 64 (p j) (at 5 (λ j. every 64 (p j)) t j hj) c hc
-
 arrival-below : (j c : ℕ) → j < 5 → c < 64 → arrival j c < 64
 unfolding arrival turned place
-arrival-below j c hj hc = ltb→lt (arrival j c) 64 (in-cells (λ j c. ltb (arrival j c) 64) tt j c hj hc)
+arrival-below j c hj hc = ltb→lt (arrival j c) 64 (at-cells (λ j c. ltb (arrival j c) 64) tt j c hj hc)
 
 origin-arrival : (j c : ℕ) → j < 5 → c < 64 → origin j (arrival j c) ≡ c
 unfolding origin arrival turned place
-origin-arrival j c hj hc = eqb→eq (origin j (arrival j c)) c (in-cells (λ j c. eqb (origin j (arrival j c)) c) tt j c hj hc)
+origin-arrival j c hj hc = eqb→eq (origin j (arrival j c)) c (at-cells (λ j c. eqb (origin j (arrival j c)) c) tt j c hj hc)
 
 arrival-origin : (j c : ℕ) → j < 5 → c < 64 → arrival j (origin j c) ≡ c
 unfolding origin arrival turned place
-arrival-origin j c hj hc = eqb→eq (arrival j (origin j c)) c (in-cells (λ j c. eqb (arrival j (origin j c)) c) tt j c hj hc)
+arrival-origin j c hj hc = eqb→eq (arrival j (origin j c)) c (at-cells (λ j c. eqb (arrival j (origin j c)) c) tt j c hj hc)
 
 arranged-undone : Undoes arranged unarranged
 unfolding arranged unarranged

@@ -3,6 +3,7 @@ use mathlib.Core.Path.{_≡_, sym, ap, ap₂, _∙_}
 use mathlib.Core.List.{List, [], _∷_}
 use Prim.Native.Nat.{ℕ, _+_, _*_, _/_, _%_, _<_}
 use native.Mathlib.Nat.{mod-lt}
+use native.Mathlib.Omega.{arith}
 use lib.Bits.{bitXor, xor-lt}
 use lib.Dec.{ltb, ltb→lt, lit<}
 use lib.ListN.{getD}
@@ -10,8 +11,8 @@ use Rattle.sycon.specs.Permutation.{Bits, bit, bits, pack, of-word, sbox, colu
 use Rattle.sycon.specs.Permutation.{turned, origin, arranged, round}
 use Rattle.sycon.specs.Steps.{Same, on-state, four-steps}
 use Rattle.sycon.proofs.Digits.{bit-digit}
-use Rattle.sycon.proofs.Packing.{pack-same, bits-pack}
-use Rattle.sycon.proofs.Tests.{every, at}
+use Rattle.sycon.proofs.Packing.{number, pack-same, bits-pack}
+use Rattle.sycon.proofs.Tests.{at-cells}
 
 -- what a step makes of a state hangs on the state's digits alone
 abbrev pub Respects : (Bits → Bits) → Type 0
@@ -48,6 +49,11 @@ pub digits-added : (i : ℕ) (f : Bits) → Digits f → Digits (added i f)
 unfolding added
 digits-added i f d j c = xor-lt 1 _ _ (d j c) (bit-digit _ _)
 
+-- a column as the number of its digits
+pub column-is : (f : Bits) (c : ℕ) → column f c ≡ number 5 (λ j. f j c)
+unfolding column number
+column-is f c = omega arith
+
 pub column-same : (f g : Bits) → Same f g → (c : ℕ) → c < 64 → column f c ≡ column g c
 unfolding column
 column-same f g e c h =
@@ -74,8 +80,7 @@ respects-added i f g e j c hj hc =
 
 pub origin-below : (j c : ℕ) → j < 5 → c < 64 → origin j c < 64
 unfolding origin turned
-origin-below j c hj hc =
-    ltb→lt (origin j c) 64 (at 64 (λ c. ltb (origin j c) 64) (at 5 (λ j. every 64 (λ c. ltb (origin j c) 64)) tt j hj) c hc)
+origin-below j c hj hc = ltb→lt (origin j c) 64 (at-cells (λ j c. ltb (origin j c) 64) tt j c hj hc)
 
 pub respects-arranged : Respects arranged
 unfolding arranged

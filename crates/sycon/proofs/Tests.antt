@@ -23,6 +23,10 @@ at (suc n) p t k h =
     ⊎-elim (λ e. subst (λ m. T (p m)) (sym e) (both (p n) (every n p) t .0))
     (λ o. at n p (both (p n) (every n p) t .1) k (omega arith)) (cases-eq k n)
 
+-- the test passes at each column of each word
+pub at-cells : (p : ℕ → ℕ → Bool) → T (every 5 (λ j. every 64 (p j))) → (j c : ℕ) → j < 5 → c < 64 → T (p j c)
+at-cells p t j c hj hc = at 64 (p j) (at 5 (λ j. every 64 (p j)) t j hj) c hc
+
 -- the test passes at all digits
 abbrev pub digitwise : (ℕ → ℕ → ℕ → ℕ → ℕ → Bool) → Bool
 digitwise p = every 2 (λ v. every 2 (λ w. every 2 (λ x. every 2 (λ y. every 2 (λ z. p v w x y z)))))

@@ -1,10 +1,8 @@
--- Sycon block by block, as it is published: padding, the pairs of block and domain that a label and a text give, and the
--- state as a fold over them.
-use mathlib.Core.List.{List, [], _∷_, _++_, map}
+-- A message block by block: padding, the pairs of block and domain that it gives, and the state as a fold over them.
+-- The lemmas of proofs/ cite this; no contract does yet.
+use mathlib.Core.List.{List, [], _∷_, _++_}
 use Prim.Native.Nat.{ℕ, zero, suc, _+_, _-_, _/_, _%_}
 use lib.ListN.{length, take, drop, replicate}
-use Rattle.sycon.specs.Permutation.{permuted}
-use Rattle.sealing.specs.Rates.{Setting}
 use Rattle.sealing.specs.Sponge.{with-bytes, absorbed}
 
 -- one 1 bit and zeros to the end of the block, always
@@ -25,17 +23,9 @@ marked d e [] = []
 marked d e (x ∷ []) = (x, e) ∷ []
 marked d e (x ∷ y ∷ ys) = (x, d) ∷ marked d e (y ∷ ys)
 
--- an empty label has no blocks at all
-abbrev pub label-pairs : ℕ → List ℕ → List (List ℕ × ℕ)
-label-pairs b [] = []
-label-pairs b (x ∷ xs) = marked 1 2 (blocks b (x ∷ xs))
-
+-- a text's pairs
 abbrev pub text-pairs : ℕ → List ℕ → List (List ℕ × ℕ)
 text-pairs b text = marked 2 4 (blocks b text)
-
--- the key's two blocks: of its padded form, which at 8 bytes has a third, the first two
-abbrev pub key-blocks : ℕ → List ℕ → List (List ℕ)
-key-blocks b key = cut b 2 (padded b key)
 
 -- the state after pairs were absorbed with r rounds each
 unfoldable pub absorbed-all : ℕ → List (List ℕ × ℕ) → List ℕ → List ℕ

@@ -1,5 +1,5 @@
 -- What the calls answer, and what their places and the engine hold then, for any arguments.
--- Of an engine `state` is what it held before. It holds zeros after a call that worked, so that no key is left in it.
+-- Of an engine `state` is what it held before. It holds zeros after a call whose measures passed, so that no key is left in it.
 use mathlib.Core.List.{List, [], _∷_, _++_}
 use mathlib.Core.Bool.{Bool, cond, _&&_}
 use Prim.Native.Nat.{ℕ}

@@ -45,7 +45,7 @@ fn add_domain<E: Engine>(engine: &mut E, domain: u8)
 }
 
 /// Absorbs a block of its own: XORs it into the first bytes of the state and the domain into the last three bits, and
-/// permutes. Sealing, opening and digest are made of these; bytes past the state's 40 go nowhere.
+/// permutes. Bytes past the state's 40 go nowhere, and of a domain above 7 the lowest three bits count.
 pub fn absorb<E: Engine>(engine: &mut E, block: &[u8], domain: u8, rounds: usize)
     ensures { λ _. ⌜ state (now (engine .exit))
         ≡ absorbed rounds (now (block .entry)) domain (state (now (engine .entry))) ⌝ }

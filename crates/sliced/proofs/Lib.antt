@@ -1,4 +1,2 @@
-mod Bytes
 mod Gathering
-mod Held
 mod Substitution

@@ -12,8 +12,8 @@ use Rattle.sycon.specs.Steps.{Same}
 use Rattle.sycon.proofs.Digits.{bit-digit, bit-and, bit-or, bit-xor, bit-not}
 use Rattle.sycon.proofs.Steps.{column-same}
 use Rattle.sycon.proofs.Tests.{at, digitwise, at-digits}
-use Rattle.sliced.specs.Words.{word-bits}
-use Rattle.sliced.proofs.Held.{by-word}
+use Rattle.words.specs.Words.{word-bits}
+use Rattle.words.proofs.Held.{by-word}
 
 -- the formulas, over the complement, which is another on digits than on words
 abbrev formulas : (ℕ → ℕ) → ℕ → ℕ → ℕ → ℕ → ℕ → List ℕ

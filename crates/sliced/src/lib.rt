@@ -1,7 +1,7 @@
 //! The engine of five words.
 
-mod words;
+mod steps;
 
-pub use words::engine::Sliced;
-pub use words::engine::SlicedEngine;
-pub use words::engine::SlicedTwoWay;
+pub use steps::engine::Sliced;
+pub use steps::engine::SlicedEngine;
+pub use steps::engine::SlicedTwoWay;

@@ -9,7 +9,7 @@ use lib.Dec.{T, eqb, eqb→eq, ltb, ltb→lt}
 use lib.ListN.{getD}
 use Rattle.sycon.specs.Laws.{One-to-one, Onto}
 use Rattle.sycon.specs.Permutation.{State, Bits, bit, bits, of-word, sbox, column, substituted}
-use Rattle.sycon.specs.Permutation.{first-rotation, second-rotation, diffused, added}
+use Rattle.sycon.specs.Permutation.{first-rotation, second-rotation, diffused, added, round-constant}
 use Rattle.sycon.specs.Permutation.{quarter-turn, byte-places, turned, origin, arranged, round, rounds, permuted}
 use Rattle.sycon.specs.Steps.{Same, on-state}
 use Rattle.sycon.proofs.Digits.{bit-digit}
@@ -116,12 +116,12 @@ diffused-undoes =
     }
 
 -- step 3
-added-undone : (i : ℕ) → Undoes (added i) (added i)
+added-undone : (k : ℕ) → Undoes (added k) (added k)
 unfolding added
-added-undone i =
+added-undone k =
     record {
-      respects = respects-added i;
-      keeps = digits-added i;
+      respects = respects-added k;
+      keeps = digits-added k;
       back = λ f d j c hj hc. xor-twice (f j c) _;
     }
 
@@ -164,8 +164,8 @@ arranged-undoes =
       back = λ f d j c hj hc. ap (f j) (arrival-origin j c hj hc);
     }
 
-pub added-twice : (i : ℕ) (s : List ℕ) → State s → on-state (added i) (on-state (added i) s) ≡ s
-added-twice i = undone (added i) (added i) (added-undone i)
+pub added-twice : (k : ℕ) (s : List ℕ) → State s → on-state (added k) (on-state (added k) s) ≡ s
+added-twice k = undone (added k) (added k) (added-undone k)
 
 -- a map of states that can be taken back
 pub record Bijection (map : List ℕ → List ℕ) : Type 0 where
@@ -187,8 +187,8 @@ substituted-bijection = step-bijection substituted unsubstituted unsubstituted s
 pub diffused-bijection : Bijection (on-state diffused)
 diffused-bijection = step-bijection diffused undiffused rediffused diffused-undone diffused-undoes
 
-pub added-bijection : (i : ℕ) → Bijection (on-state (added i))
-added-bijection i = step-bijection (added i) (added i) (added i) (added-undone i) (added-undone i)
+pub added-bijection : (k : ℕ) → Bijection (on-state (added k))
+added-bijection k = step-bijection (added k) (added k) (added k) (added-undone k) (added-undone k)
 
 pub arranged-bijection : Bijection (on-state arranged)
 arranged-bijection = step-bijection arranged unarranged unarranged arranged-undone arranged-undoes
@@ -207,11 +207,12 @@ after m n bm bn =
 
 pub round-bijection : (i : ℕ) → Bijection (round i)
 round-bijection i =
+    let k : ℕ = round-constant i in
     subst Bijection (fun-ext (round-steps i))
-    (after (λ s. on-state (added i) (on-state diffused (on-state substituted s))) (on-state arranged)
-    (after (λ s. on-state diffused (on-state substituted s)) (on-state (added i))
+    (after (λ s. on-state (added k) (on-state diffused (on-state substituted s))) (on-state arranged)
+    (after (λ s. on-state diffused (on-state substituted s)) (on-state (added k))
     (after (on-state substituted) (on-state diffused) substituted-bijection diffused-bijection)
-    (added-bijection i))
+    (added-bijection k))
     arranged-bijection)
 
 rounds-bijection : (n : ℕ) → Bijection (rounds n)

@@ -82,7 +82,7 @@ unfolding pack
 getD-pack f k h = getD-map-counting (packed f) 0 40 k k 0 h (omega arith) ∙ packed-is f k
 
 -- two states of 40 bytes are equal where their bytes are
-same-states : (s t : List ℕ) → length s ≡ 40 → length t ≡ 40 → ((k : ℕ) → k < 40 → getD s k 0 ≡ getD t k 0) → s ≡ t
+pub same-states : (s t : List ℕ) → length s ≡ 40 → length t ≡ 40 → ((k : ℕ) → k < 40 → getD s k 0 ≡ getD t k 0) → s ≡ t
 same-states s t m n e = ext-getD 0 s t (m ∙ sym n) (λ k h. e k (rw m at h))
 
 -- a byte k < 40 stands in word k / 8 < 5, and its digits in columns below 64

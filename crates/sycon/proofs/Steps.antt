@@ -3,12 +3,13 @@ use mathlib.Core.Path.{_≡_, sym, ap, ap₂, _∙_}
 use mathlib.Core.List.{List, [], _∷_}
 use Prim.Native.Nat.{ℕ, _+_, _*_, _/_, _%_, _<_}
 use native.Mathlib.Nat.{mod-lt}
+use native.Mathlib.Numerals.{add-one}
 use native.Mathlib.Omega.{arith}
 use lib.Bits.{bitXor, xor-lt}
 use lib.Dec.{ltb, ltb→lt, lit<}
 use lib.ListN.{getD}
 use Rattle.sycon.specs.Permutation.{Bits, bit, bits, pack, of-word, sbox, column, substituted, diffused, round-constant, added}
-use Rattle.sycon.specs.Permutation.{turned, origin, arranged, round}
+use Rattle.sycon.specs.Permutation.{turned, origin, arranged, round, rounds}
 use Rattle.sycon.specs.Steps.{Same, on-state, four-steps}
 use Rattle.sycon.proofs.Digits.{bit-digit}
 use Rattle.sycon.proofs.Packing.{number, pack-same, bits-pack}
@@ -45,9 +46,9 @@ pub digits-diffused : (f : Bits) → Digits f → Digits (diffused f)
 unfolding diffused
 digits-diffused f d j c = xor-lt 1 _ _ (xor-lt 1 _ _ (d _ _) (d _ _)) (d _ _)
 
-pub digits-added : (i : ℕ) (f : Bits) → Digits f → Digits (added i f)
+pub digits-added : (k : ℕ) (f : Bits) → Digits f → Digits (added k f)
 unfolding added
-digits-added i f d j c = xor-lt 1 _ _ (d j c) (bit-digit _ _)
+digits-added k f d j c = xor-lt 1 _ _ (d j c) (bit-digit _ _)
 
 -- a column as the number of its digits
 pub column-is : (f : Bits) (c : ℕ) → column f c ≡ number 5 (λ j. f j c)
@@ -73,10 +74,9 @@ unfolding diffused
 respects-diffused f g e j c hj hc =
     ap₂ bitXor (ap₂ bitXor (e j c hj hc) (e j _ hj (mod-lt _ (lit< tt)))) (e j _ hj (mod-lt _ (lit< tt)))
 
-pub respects-added : (i : ℕ) → Respects (added i)
+pub respects-added : (k : ℕ) → Respects (added k)
 unfolding added
-respects-added i f g e j c hj hc =
-    ap (λ n. bitXor n (bit (of-word (0 ∷ 0 ∷ round-constant i ∷ 0 ∷ 0 ∷ []) j) c)) (e j c hj hc)
+respects-added k f g e j c hj hc = ap (λ n. bitXor n (bit (of-word (0 ∷ 0 ∷ k ∷ 0 ∷ 0 ∷ []) j) c)) (e j c hj hc)
 
 pub origin-below : (j c : ℕ) → j < 5 → c < 64 → origin j c < 64
 unfolding origin turned
@@ -86,11 +86,24 @@ pub respects-arranged : Respects arranged
 unfolding arranged
 respects-arranged f g e j c hj hc = e j (origin j c) hj (origin-below j c hj hc)
 
-pub round-steps : (i : ℕ) (s : List ℕ) → four-steps i s ≡ round i s
+pub round-steps : (i : ℕ) (s : List ℕ) → four-steps (round-constant i) s ≡ round i s
 unfolding round on-state
 round-steps i s =
+    let k : ℕ = round-constant i in
     let f : Bits = substituted (bits s) in
     let d = digits-substituted (bits s) in
-    ap (λ t. on-state arranged (on-state (added i) t)) (on-pack diffused respects-diffused f d)
-    ∙ ap (on-state arranged) (on-pack (added i) (respects-added i) (diffused f) (digits-diffused f d))
-    ∙ on-pack arranged respects-arranged (added i (diffused f)) (digits-added i (diffused f) (digits-diffused f d))
+    ap (λ t. on-state arranged (on-state (added k) t)) (on-pack diffused respects-diffused f d)
+    ∙ ap (on-state arranged) (on-pack (added k) (respects-added k) (diffused f) (digits-diffused f d))
+    ∙ on-pack arranged respects-arranged (added k (diffused f)) (digits-added k (diffused f) (digits-diffused f d))
+
+-- t after i rounds, and one round more
+pub round-more : (i k : ℕ) (s t u : List ℕ) → k ≡ round-constant i → t ≡ rounds i s → u ≡ four-steps k t → u ≡ rounds (i + 1) s
+unfolding rounds
+round-more i k s t u ek et eu =
+    eu ∙ ap (λ k. four-steps k t) ek ∙ round-steps i t ∙ ap (round i) et ∙ ap (λ n. rounds n s) (sym (add-one i))
+
+-- a state before the round that leads to t
+pub round-less : (i k : ℕ) (s t u : List ℕ) → k ≡ round-constant i → rounds i s ≡ u → four-steps k u ≡ t → rounds (i + 1) s ≡ t
+unfolding rounds
+round-less i k s t u ek es et =
+    ap (λ n. rounds n s) (add-one i) ∙ ap (round i) es ∙ sym (round-steps i u) ∙ ap (λ k. four-steps k u) (sym ek) ∙ et

@@ -61,16 +61,17 @@ unfoldable pub diffused : Bits → Bits
 diffused f j c =
     bitXor (bitXor (f j c) (f j ((c + of-word first-rotation j) % 64))) (f j ((c + of-word second-rotation j) % 64))
 
--- step 3: the constant of round i goes into A_2, its lowest bit into s128
+-- step 3: a constant is XORed into A_2, its lowest bit into s128
+unfoldable pub added : ℕ → Bits → Bits
+added k f j c = bitXor (f j c) (bit (of-word (0 ∷ 0 ∷ k ∷ 0 ∷ 0 ∷ []) j) c)
+
+-- the constant of round i
 abbrev pub constant-bytes : List ℕ
 constant-bytes =
     0x15 ∷ 0x1A ∷ 0x1D ∷ 0x0E ∷ 0x17 ∷ 0x1B ∷ 0x0D ∷ 0x06 ∷ 0x03 ∷ 0x11 ∷ 0x18 ∷ 0x1C ∷ 0x1E ∷ 0x1F ∷ []
 
-unfoldable pub round-constant : ℕ → ℕ
+abbrev pub round-constant : ℕ → ℕ
 round-constant i = 0xAAAAAAAAAAAAAA00 + getD constant-bytes i 0
-
-unfoldable pub added : ℕ → Bits → Bits
-added i f j c = bitXor (f j c) (bit (of-word (0 ∷ 0 ∷ round-constant i ∷ 0 ∷ 0 ∷ []) j) c)
 
 -- step 4: in each word every quarter of 16 bits turns left, and then new byte k is old byte p(k)
 abbrev pub quarter-turn : List ℕ
@@ -94,7 +95,7 @@ arranged f j c = f j (origin j c)
 
 -- a round, and the rounds 0 to n - 1
 unfoldable pub round : ℕ → List ℕ → List ℕ
-round i s = pack (arranged (added i (diffused (substituted (bits s)))))
+round i s = pack (arranged (added (round-constant i) (diffused (substituted (bits s)))))
 
 unfoldable pub rounds : ℕ → List ℕ → List ℕ
 rounds zero s = s

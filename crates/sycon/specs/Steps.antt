@@ -1,9 +1,9 @@
 -- A step of the round as a map of states, for engines that take the steps one by one.
 use mathlib.Core.Path.{_≡_}
 use mathlib.Core.List.{List}
-use Prim.Native.Nat.{ℕ, _+_, _%_, _<_}
+use Prim.Native.Nat.{ℕ, _+_, _*_, _/_, _%_, _<_}
 use lib.Bits.{bitXor}
-use Rattle.sycon.specs.Permutation.{Bits, bits, pack, substituted, diffused, added, arranged}
+use Rattle.sycon.specs.Permutation.{Bits, bits, pack, substituted, diffused, added, origin, arranged}
 
 -- the same digit in each column of each word
 abbrev pub Same : Bits → Bits → Type 0
@@ -16,6 +16,10 @@ spread row a b c = bitXor (bitXor (row c) (row ((c + a) % 64))) (row ((c + b) % 
 unfoldable pub on-state : (Bits → Bits) → List ℕ → List ℕ
 on-state step s = pack (step (bits s))
 
--- the four steps of round i, one after the other
+-- the four steps of a round whose constant is k, one after the other
 abbrev pub four-steps : ℕ → List ℕ → List ℕ
-four-steps i s = on-state arranged (on-state (added i) (on-state diffused (on-state substituted s)))
+four-steps k s = on-state arranged (on-state (added k) (on-state diffused (on-state substituted s)))
+
+-- step 4 as a list of 320 bits: entry 5c + j is the number of the bit that comes to column c of word j
+unfoldable pub pl2 : ℕ → ℕ
+pl2 n = 64 * (n % 5) + origin (n % 5) (n / 5)

@@ -41,3 +41,20 @@ pub trait TwoWay: Engine {
     fn turn_back(&mut self, r: usize)
         ensures { λ _. ⌜ permuted r (Self·Engine .state (now (self .exit))) ≡ Self·Engine .state (now (self .entry)) ⌝ };
 }
+
+/// All bytes of an engine's state.
+pub fn bytes<E: Engine>(engine: &E) -> StateBytes
+    ensures { λ r. ⌜ r ≡ E·Engine .state (now (engine .entry)) ⌝ }
+{
+    let mut bytes = [0u8; 40];
+    read(engine, &mut bytes);
+    bytes
+}
+
+fn read<E: Engine>(engine: &E, bytes: &mut StateBytes)
+    ensures { λ _. ⌜ now (bytes .exit) ≡ E·Engine .state (now (engine .entry)) ⌝ }
+{
+    for k in 0..40 {
+        bytes[k] = engine.byte(k);
+    }
+}

@@ -37,7 +37,7 @@ unfolding on-state
 state-on p q u s = state-pack (p (bits s)) (u .keeps (bits s) (digits-bits s))
 
 -- the place of a number in a list
-place : List ℕ → ℕ → ℕ
+unfoldable pub place : List ℕ → ℕ → ℕ
 place [] x = 0
 place (y ∷ ys) x = cond (eqb x y) 0 (suc (place ys x))
 
@@ -145,6 +145,10 @@ origin-arrival j c hj hc = eqb→eq (origin j (arrival j c)) c (at-cells (λ j c
 arrival-origin : (j c : ℕ) → j < 5 → c < 64 → arrival j (origin j c) ≡ c
 unfolding origin arrival turned place
 arrival-origin j c hj hc = eqb→eq (arrival j (origin j c)) c (at-cells (λ j c. eqb (arrival j (origin j c)) c) tt j c hj hc)
+
+-- no two columns of a word come from one
+pub origin-once : (j c d : ℕ) → j < 5 → c < 64 → d < 64 → origin j c ≡ origin j d → c ≡ d
+origin-once j c d hj hc hd e = sym (arrival-origin j c hj hc) ∙ ap (arrival j) e ∙ arrival-origin j d hj hd
 
 arranged-undone : Undoes arranged unarranged
 unfolding arranged unarranged

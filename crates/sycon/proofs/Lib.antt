@@ -1,5 +1,6 @@
 pub mod Bijections
 pub mod Digits
+pub mod Fields
 pub mod Lengths
 pub mod Packing
 pub mod Spreading

@@ -29,7 +29,7 @@ number-same (suc n) g h e =
     ap₂ (λ x y. x + 2 * y) (e 0 (omega arith))
     (number-same n (λ i. g (suc i)) (λ i. h (suc i)) (λ i l. e (suc i) (omega arith)))
 
-bit-of-digit : (x : ℕ) → x < 2 → bit x 0 ≡ x
+pub bit-of-digit : (x : ℕ) → x < 2 → bit x 0 ≡ x
 unfolding bit
 bit-of-digit x h = omega arith
 

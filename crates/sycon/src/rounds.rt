@@ -38,9 +38,7 @@ pub fn back<T: RoundsBack>(engine: &mut T, r: usize)
 // The rounds 0 to n - 1.
 fn run<T: Rounds>(engine: &mut T, n: usize)
     requires { ⌜ n ≤ 14 ⌝ }
-    ensures {
-        λ _. ⌜ ((r : ℕ) → n ≡ min r 14 → T·Rounds .held (now (engine .exit)) ≡ permuted r (T·Rounds .held (now (engine .entry)))) ⌝
-    }
+    ensures { λ _. ⌜ ((r : ℕ) → n ≡ min r 14 → T·Rounds .held (now (engine .exit)) ≡ permuted r (T·Rounds .held (now (engine .entry)))) ⌝ }
 {
     for i in 0..n {
         engine.round(constant(i));
@@ -50,9 +48,7 @@ fn run<T: Rounds>(engine: &mut T, n: usize)
 // The rounds n - 1 to 0, taken back.
 fn run_back<T: RoundsBack>(engine: &mut T, n: usize)
     requires { ⌜ n ≤ 14 ⌝ }
-    ensures {
-        λ _. ⌜ ((r : ℕ) → n ≡ min r 14 → permuted r (T·Rounds .held (now (engine .exit))) ≡ T·Rounds .held (now (engine .entry))) ⌝
-    }
+    ensures { λ _. ⌜ ((r : ℕ) → n ≡ min r 14 → permuted r (T·Rounds .held (now (engine .exit))) ≡ T·Rounds .held (now (engine .entry))) ⌝ }
 {
     for i in (0..n).rev() {
         engine.round_back(constant(i));

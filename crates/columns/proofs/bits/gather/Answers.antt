@@ -1,0 +1,29 @@
+use mathlib.Core.Path.{ap, _∙_}
+use Prim.Native.Nat.{ℕ}
+use native.Mathlib.Omega.{arith}
+use lib.ListN.{length-set}
+use Rattle.std.proofs.shelf.Edits.{fill-by-more}
+use Rattle.sycon.specs.Permutation.{bit, column}
+use Rattle.sycon.proofs.Packing.{bit-number, pack-same}
+use Rattle.sycon.proofs.Steps.{column-is}
+use Rattle.words.specs.Words.{rows, word-bits}
+use Rattle.words.specs.Words.{held as held-words}
+use Rattle.words.proofs.Held.{digits}
+use Rattle.columns.specs.Columns.{column-bits, held}
+use Rattle.columns.proofs.bits.gather.Needs as need
+
+pub loop-c-again : need.loop-c-again
+loop-c-again c =
+    let ws = rows (c .args .words .now) in (
+      length-set _ _ _ ∙ c .loop-c .inv .0,
+      rw (c .column-of .ensures)
+          (fill-by-more (column (word-bits ws)) (c .loop-c .columns) (c .loop-c .c) 0 (omega (arith, c .loop-c .inv .0)) (c .loop-c .inv .1)),
+    )
+
+pub returns : need.returns
+unfolding held held-words
+returns c =
+    let ws = rows (c .args .words .now) in
+    pack-same (column-bits (c .loop-c .columns)) (word-bits ws)
+    (λ j i hj hi. ap (λ x. bit x j) (c .loop-c .inv .1 i (omega arith) ∙ column-is (word-bits ws) i)
+    ∙ bit-number 5 (λ j. word-bits ws j i) (λ j. digits ws j i) j hj)

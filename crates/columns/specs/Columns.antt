@@ -1,0 +1,11 @@
+-- The state that 64 columns hold: bit j of column c is column c of word j.
+use mathlib.Core.List.{List}
+use Prim.Native.Nat.{ℕ}
+use lib.ListN.{getD}
+use Rattle.sycon.specs.Permutation.{Bits, bit, pack}
+
+abbrev pub column-bits : List ℕ → Bits
+column-bits cs j c = bit (getD cs c 0) j
+
+unfoldable pub held : List ℕ → List ℕ
+held cs = pack (column-bits cs)

@@ -1,0 +1,599 @@
+//! Columns of five bits, the unit from A_0: gathered from five words and scattered to them, looked up, and moved bit by bit.
+
+ghost use Prim.Native.Nat.{ℕ, _+_, _*_, _%_, _<_};
+ghost use Rattle.columns.specs.Columns.{column-bits, held};
+ghost use Rattle.sycon.specs.Permutation.{arranged, bit, column, substituted};
+ghost use Rattle.sycon.specs.Steps.{on-state, pl2};
+ghost use Rattle.words.specs.Words.{meant, rows, word-bits};
+ghost use lib.ListN.{getD, set};
+ghost use mathlib.Core.Path.{_≡_};
+use words::Words;
+
+pub mod engine;
+
+type ColumnBytes = [u8; 64];
+
+// Bit j of a byte.
+fn bit_of(x: u8, j: usize) -> u8
+    requires { ⌜ j < 8 ⌝ }
+    ensures value { λ r. ⌜ r ≡ bit x j ⌝ }
+    ensures digit { λ r. ⌜ r < 2 ⌝ }
+{
+    (x >> j) & 1
+}
+
+// The byte with bit j replaced.
+fn with_bit(x: u8, j: usize, b: u8) -> u8
+    requires { ⌜ j < 8 ⌝ ∗ ⌜ b < 2 ⌝ }
+    ensures here { λ r. ⌜ bit r j ≡ b ⌝ }
+    ensures there { λ r. ⌜ ((i : ℕ) → i < 8 → (i ≡ j → ⊥) → bit r i ≡ bit x i) ⌝ }
+{
+    (x & !(1 << j)) | (b << j)
+}
+
+// Bit j of column c becomes b.
+fn put_bit(columns: &mut ColumnBytes, c: usize, j: usize, b: u8)
+    requires { ⌜ c < 64 ⌝ ∗ ⌜ j < 8 ⌝ ∗ ⌜ b < 2 ⌝ }
+    ensures here { λ _. ⌜ column-bits (now (columns .exit)) j c ≡ b ⌝ }
+    ensures there { λ _. ⌜ ((i d : ℕ) → i < 8 → (d ≡ c → i ≡ j → ⊥)
+        → column-bits (now (columns .exit)) i d ≡ column-bits (now (columns .entry)) i d) ⌝ }
+{
+    columns[c] = with_bit(columns[c], j, b);
+}
+
+// Column c of a word.
+fn digit(x: u64, c: usize) -> u8
+    requires { ⌜ c < 64 ⌝ }
+    ensures value { λ r. ⌜ r ≡ bit x c ⌝ }
+    ensures digit { λ r. ⌜ r < 2 ⌝ }
+{
+    ((x >> c) & 1) as u8
+}
+
+// The number of a column whose digits these are, A_0's the units.
+fn joined(d0: u8, d1: u8, d2: u8, d3: u8, d4: u8) -> u8
+    requires { ⌜ d0 < 2 ⌝ ∗ ⌜ d1 < 2 ⌝ ∗ ⌜ d2 < 2 ⌝ ∗ ⌜ d3 < 2 ⌝ ∗ ⌜ d4 < 2 ⌝ }
+    ensures { λ r. ⌜ r ≡ d0 + 2 * (d1 + 2 * (d2 + 2 * (d3 + 2 * d4))) ⌝ }
+{
+    d0 | d1 << 1 | d2 << 2 | d3 << 3 | d4 << 4
+}
+
+// Column c of five words.
+fn column_of(words: &Words, c: usize) -> u8
+    requires { ⌜ c < 64 ⌝ }
+    ensures { λ r. ⌜ r ≡ column (word-bits (rows (now (words .entry)))) c ⌝ }
+{
+    joined(
+        digit(words.a0, c),
+        digit(words.a1, c),
+        digit(words.a2, c),
+        digit(words.a3, c),
+        digit(words.a4, c),
+    )
+}
+
+// Bit j of each column, as a word.
+fn row_of(columns: &ColumnBytes, j: usize) -> u64
+    requires { ⌜ j < 8 ⌝ }
+    ensures { λ r. ⌜ ((c : ℕ) → c < 64 → bit r c ≡ column-bits (now (columns .entry)) j c) ⌝ }
+{
+    let mut row = 0;
+    for c in 0..64 {
+        row |= (bit_of(columns[c], j) as u64) << c;
+    }
+    row
+}
+
+fn gather(words: &Words) -> ColumnBytes
+    ensures { λ r. ⌜ held r ≡ meant (now (words .entry)) ⌝ }
+{
+    let mut columns = [0u8; 64];
+    for c in 0..64 {
+        columns[c] = column_of(words, c);
+    }
+    columns
+}
+
+fn scatter(columns: &ColumnBytes) -> Words
+    ensures { λ r. ⌜ meant r ≡ held (now (columns .entry)) ⌝ }
+{
+    Words {
+        a0: row_of(columns, 0),
+        a1: row_of(columns, 1),
+        a2: row_of(columns, 2),
+        a3: row_of(columns, 3),
+        a4: row_of(columns, 4),
+    }
+}
+
+// Each column replaced by the entry that it numbers.
+fn look_up(columns: &ColumnBytes, table: &[u8; 32]) -> ColumnBytes
+    ensures { λ r. ⌜ ((c : ℕ) → c < 64 → getD r c 0 ≡ getD (now (table .entry)) (getD (now (columns .entry)) c 0 % 32) 0) ⌝ }
+{
+    let mut replaced = [0u8; 64];
+    for c in 0..64 {
+        replaced[c] = table[(columns[c] % 32) as usize];
+    }
+    replaced
+}
+
+// Step 1.
+fn substitute(columns: &ColumnBytes) -> ColumnBytes
+    ensures { λ r. ⌜ held r ≡ on-state substituted (held (now (columns .entry))) ⌝ }
+{
+    look_up(columns, &SBOX)
+}
+
+// Step 1, taken back.
+fn unsubstitute(columns: &ColumnBytes) -> ColumnBytes
+    ensures { λ r. ⌜ on-state substituted (held r) ≡ held (now (columns .entry)) ⌝ }
+{
+    look_up(columns, &INVERSE_SBOX)
+}
+
+// The column that bit n, counted through the columns, comes from in step 4. Its word is that of bit n.
+fn origin(n: usize) -> usize
+    requires { ⌜ n < 320 ⌝ }
+    ensures { λ r. ⌜ r ≡ pl2 n % 64 ⌝ }
+{
+    PL2[n] as usize % 64
+}
+
+// Step 4.
+fn arrange(columns: &ColumnBytes) -> ColumnBytes
+    ensures { λ r. ⌜ held r ≡ on-state arranged (held (now (columns .entry))) ⌝ }
+{
+    let mut moved = [0u8; 64];
+    for n in 0..320 {
+        let j = n % 5;
+        put_bit(&mut moved, n / 5, j, bit_of(columns[origin(n)], j));
+    }
+    moved
+}
+
+// Step 4, taken back.
+fn unarrange(columns: &ColumnBytes) -> ColumnBytes
+    ensures { λ r. ⌜ on-state arranged (held r) ≡ held (now (columns .entry)) ⌝ }
+{
+    let mut moved = [0u8; 64];
+    for n in 0..320 {
+        let j = n % 5;
+        put_bit(&mut moved, origin(n), j, bit_of(columns[n / 5], j));
+    }
+    moved
+}
+
+// Byte k of the state, or 0 where there is none.
+fn read(columns: &ColumnBytes, k: usize) -> u8
+    ensures { λ r. ⌜ r ≡ getD (held (now (columns .entry))) k 0 ⌝ }
+{
+    if k < 40 { byte_at(columns, k) } else { 0 }
+}
+
+// Byte k becomes b; past the last byte nothing changes.
+fn write(columns: &mut ColumnBytes, k: usize, b: u8)
+    ensures { λ _. ⌜ held (now (columns .exit)) ≡ set (held (now (columns .entry))) k b ⌝ }
+{
+    if k < 40 {
+        put_byte(columns, k, b);
+    }
+}
+
+// Byte k stands in word k / 8, in eight columns.
+fn byte_at(columns: &ColumnBytes, k: usize) -> u8
+    requires { ⌜ k < 40 ⌝ }
+    ensures { λ r. ⌜ r ≡ getD (held (now (columns .entry))) k 0 ⌝ }
+{
+    let j = k / 8;
+    let first = 8 * (k % 8);
+    let mut byte = 0;
+    for i in 0..8 {
+        byte = with_bit(byte, i, bit_of(columns[first + i], j));
+    }
+    byte
+}
+
+fn put_byte(columns: &mut ColumnBytes, k: usize, b: u8)
+    requires { ⌜ k < 40 ⌝ }
+    ensures { λ _. ⌜ held (now (columns .exit)) ≡ set (held (now (columns .entry))) k b ⌝ }
+{
+    let j = k / 8;
+    let first = 8 * (k % 8);
+    for i in 0..8 {
+        put_bit(columns, first + i, j, bit_of(b, i));
+    }
+}
+
+const SBOX: [u8; 32] = [
+    8,
+    19,
+    30,
+    7,
+    6,
+    25,
+    16,
+    13,
+    22,
+    15,
+    3,
+    24,
+    17,
+    12,
+    4,
+    27,
+    11,
+    0,
+    29,
+    20,
+    1,
+    14,
+    23,
+    26,
+    28,
+    21,
+    9,
+    2,
+    31,
+    18,
+    10,
+    5,
+];
+
+const INVERSE_SBOX: [u8; 32] = [
+    17,
+    20,
+    27,
+    10,
+    14,
+    31,
+    4,
+    3,
+    0,
+    26,
+    30,
+    16,
+    13,
+    7,
+    21,
+    9,
+    6,
+    12,
+    29,
+    1,
+    19,
+    25,
+    8,
+    22,
+    11,
+    5,
+    23,
+    15,
+    24,
+    18,
+    2,
+    28,
+];
+
+// Entry 5c + j is the number of the bit that comes to column c of word j in step 4.
+const PL2: [u16; 320] = [
+    51,
+    68,
+    178,
+    215,
+    285,
+    52,
+    69,
+    179,
+    216,
+    286,
+    53,
+    70,
+    180,
+    217,
+    287,
+    54,
+    71,
+    181,
+    218,
+    272,
+    55,
+    72,
+    182,
+    219,
+    273,
+    56,
+    73,
+    183,
+    220,
+    274,
+    57,
+    74,
+    184,
+    221,
+    275,
+    58,
+    75,
+    185,
+    222,
+    276,
+    11,
+    116,
+    154,
+    231,
+    309,
+    12,
+    117,
+    155,
+    232,
+    310,
+    13,
+    118,
+    156,
+    233,
+    311,
+    14,
+    119,
+    157,
+    234,
+    312,
+    15,
+    120,
+    158,
+    235,
+    313,
+    0,
+    121,
+    159,
+    236,
+    314,
+    1,
+    122,
+    144,
+    237,
+    315,
+    2,
+    123,
+    145,
+    238,
+    316,
+    19,
+    76,
+    170,
+    239,
+    269,
+    20,
+    77,
+    171,
+    224,
+    270,
+    21,
+    78,
+    172,
+    225,
+    271,
+    22,
+    79,
+    173,
+    226,
+    256,
+    23,
+    64,
+    174,
+    227,
+    257,
+    24,
+    65,
+    175,
+    228,
+    258,
+    25,
+    66,
+    160,
+    229,
+    259,
+    26,
+    67,
+    161,
+    230,
+    260,
+    35,
+    124,
+    162,
+    223,
+    261,
+    36,
+    125,
+    163,
+    208,
+    262,
+    37,
+    126,
+    164,
+    209,
+    263,
+    38,
+    127,
+    165,
+    210,
+    264,
+    39,
+    112,
+    166,
+    211,
+    265,
+    40,
+    113,
+    167,
+    212,
+    266,
+    41,
+    114,
+    168,
+    213,
+    267,
+    42,
+    115,
+    169,
+    214,
+    268,
+    43,
+    92,
+    130,
+    199,
+    301,
+    44,
+    93,
+    131,
+    200,
+    302,
+    45,
+    94,
+    132,
+    201,
+    303,
+    46,
+    95,
+    133,
+    202,
+    288,
+    47,
+    80,
+    134,
+    203,
+    289,
+    32,
+    81,
+    135,
+    204,
+    290,
+    33,
+    82,
+    136,
+    205,
+    291,
+    34,
+    83,
+    137,
+    206,
+    292,
+    59,
+    100,
+    138,
+    255,
+    317,
+    60,
+    101,
+    139,
+    240,
+    318,
+    61,
+    102,
+    140,
+    241,
+    319,
+    62,
+    103,
+    141,
+    242,
+    304,
+    63,
+    104,
+    142,
+    243,
+    305,
+    48,
+    105,
+    143,
+    244,
+    306,
+    49,
+    106,
+    128,
+    245,
+    307,
+    50,
+    107,
+    129,
+    246,
+    308,
+    27,
+    84,
+    186,
+    247,
+    277,
+    28,
+    85,
+    187,
+    248,
+    278,
+    29,
+    86,
+    188,
+    249,
+    279,
+    30,
+    87,
+    189,
+    250,
+    280,
+    31,
+    88,
+    190,
+    251,
+    281,
+    16,
+    89,
+    191,
+    252,
+    282,
+    17,
+    90,
+    176,
+    253,
+    283,
+    18,
+    91,
+    177,
+    254,
+    284,
+    3,
+    108,
+    146,
+    207,
+    293,
+    4,
+    109,
+    147,
+    192,
+    294,
+    5,
+    110,
+    148,
+    193,
+    295,
+    6,
+    111,
+    149,
+    194,
+    296,
+    7,
+    96,
+    150,
+    195,
+    297,
+    8,
+    97,
+    151,
+    196,
+    298,
+    9,
+    98,
+    152,
+    197,
+    299,
+    10,
+    99,
+    153,
+    198,
+    300,
+];

@@ -8,8 +8,8 @@ use lib.ListN.{getD}
 use Rattle.sycon.specs.Permutation.{State, Bits, bit, sbox, column, substituted}
 use Rattle.sycon.specs.Steps.{Same, on-state}
 use Rattle.sycon.proofs.Digits.{bit-digit, bit-mod}
-use Rattle.sycon.proofs.Packing.{number-bits, state-pack}
-use Rattle.sycon.proofs.Steps.{Respects, Digits, column-is, stepped, stepped-back, respects-substituted}
+use Rattle.sycon.proofs.Packing.{number-bits}
+use Rattle.sycon.proofs.Steps.{Respects, Digits, column-is, holding-state, holding-step, holding-step-back, respects-substituted}
 use Rattle.sycon.proofs.Tests.{every, at}
 use Rattle.columns.specs.Columns.{column-bits, held}
 
@@ -17,20 +17,16 @@ digits : (cs : List ℕ) → Digits (column-bits cs)
 digits cs j c = bit-digit (getD cs c 0) j
 
 pub held-state : (cs : List ℕ) → State (held cs)
-unfolding held
-held-state cs = state-pack (column-bits cs) (digits cs)
+held-state = holding-state column-bits digits
 
--- columns whose bits are those of a step
+-- columns whose bits are those of a step, and columns of which a step makes the present ones
 pub held-step : (step : Bits → Bits) → Respects step → (cs ds : List ℕ) → Same (column-bits ds) (step (column-bits cs))
     → held ds ≡ on-state step (held cs)
-unfolding held
-held-step step r cs ds e = stepped step r (column-bits cs) (column-bits ds) (digits cs) e
+held-step = holding-step column-bits digits
 
--- columns of which a step makes the present ones
 pub held-step-back : (step : Bits → Bits) → Respects step → (cs ds : List ℕ) → Same (step (column-bits ds)) (column-bits cs)
     → on-state step (held ds) ≡ held cs
-unfolding held
-held-step-back step r cs ds e = stepped-back step r (column-bits cs) (column-bits ds) (digits ds) e
+held-step-back = holding-step-back column-bits digits
 
 -- of a column only its five bits count
 column-of-bits : (cs : List ℕ) (c : ℕ) → column (column-bits cs) c ≡ getD cs c 0 % 32

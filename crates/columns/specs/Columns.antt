@@ -2,10 +2,11 @@
 use mathlib.Core.List.{List}
 use Prim.Native.Nat.{ℕ}
 use lib.ListN.{getD}
-use Rattle.sycon.specs.Permutation.{Bits, bit, pack}
+use Rattle.sycon.specs.Permutation.{Bits, bit}
+use Rattle.sycon.specs.Steps.{holding}
 
 abbrev pub column-bits : List ℕ → Bits
 column-bits cs j c = bit (getD cs c 0) j
 
-unfoldable pub held : List ℕ → List ℕ
-held cs = pack (column-bits cs)
+abbrev pub held : List ℕ → List ℕ
+held = holding column-bits

@@ -8,11 +8,11 @@ use native.Mathlib.Omega.{arith}
 use lib.Bits.{bitXor, xor-lt}
 use lib.Dec.{ltb, ltb→lt, lit<}
 use lib.ListN.{getD}
-use Rattle.sycon.specs.Permutation.{Bits, bit, bits, pack, of-word, sbox, column, substituted, diffused, round-constant, added}
+use Rattle.sycon.specs.Permutation.{State, Bits, bit, bits, pack, of-word, sbox, column, substituted, diffused, round-constant, added}
 use Rattle.sycon.specs.Permutation.{turned, origin, arranged, round, rounds}
-use Rattle.sycon.specs.Steps.{Same, on-state, four-steps}
+use Rattle.sycon.specs.Steps.{Same, holding, on-state, four-steps}
 use Rattle.sycon.proofs.Digits.{bit-digit}
-use Rattle.sycon.proofs.Packing.{number, pack-same, bits-pack}
+use Rattle.sycon.proofs.Packing.{number, pack-same, bits-pack, state-pack}
 use Rattle.sycon.proofs.Tests.{at-cells}
 
 -- what a step makes of a state hangs on the state's digits alone
@@ -26,13 +26,23 @@ pub on-pack : (step : Bits → Bits) → Respects step → (f : Bits) → Digits
 unfolding on-state
 on-pack step r f d = pack-same (step (bits (pack f))) (step f) (r (bits (pack f)) f (bits-pack f d))
 
--- an engine whose bits were f, and are now what the step makes of f, took the step
-pub stepped : (step : Bits → Bits) → Respects step → (f g : Bits) → Digits f → Same g (step f) → pack g ≡ on-state step (pack f)
-stepped step r f g d e = pack-same g (step f) e ∙ sym (on-pack step r f d)
+-- an engine that keeps its state as a list of numbers, of which `view` reads the bits
+module _ (view : List ℕ → Bits) (digits : (xs : List ℕ) → Digits (view xs)) where
+  pub holding-state : (xs : List ℕ) → State (holding view xs)
+  unfolding holding
+  holding-state xs = state-pack (view xs) (digits xs)
 
--- and one whose bits become such that the step makes f of them took it back
-pub stepped-back : (step : Bits → Bits) → Respects step → (f g : Bits) → Digits g → Same (step g) f → on-state step (pack g) ≡ pack f
-stepped-back step r f g d e = on-pack step r g d ∙ pack-same (step g) f e
+  -- it took a step where its bits are now what the step makes of those that were
+  pub holding-step : (step : Bits → Bits) → Respects step → (xs ys : List ℕ) → Same (view ys) (step (view xs))
+      → holding view ys ≡ on-state step (holding view xs)
+  unfolding holding
+  holding-step step r xs ys e = pack-same (view ys) (step (view xs)) e ∙ sym (on-pack step r (view xs) (digits xs))
+
+  -- and took it back where the step makes those that were of what they are now
+  pub holding-step-back : (step : Bits → Bits) → Respects step → (xs ys : List ℕ) → Same (step (view ys)) (view xs)
+      → on-state step (holding view ys) ≡ holding view xs
+  unfolding holding
+  holding-step-back step r xs ys e = on-pack step r (view ys) (digits ys) ∙ pack-same (step (view ys)) (view xs) e
 
 pub digits-bits : (s : List ℕ) → Digits (bits s)
 unfolding bits

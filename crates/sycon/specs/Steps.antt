@@ -13,6 +13,10 @@ Same f g = (j c : ℕ) → j < 5 → c < 64 → f j c ≡ g j c
 abbrev pub spread : (ℕ → ℕ) → ℕ → ℕ → ℕ → ℕ
 spread row a b c = bitXor (bitXor (row c) (row ((c + a) % 64))) (row ((c + b) % 64))
 
+-- the state that a list of numbers holds, where `view` reads its bits off the list
+unfoldable pub holding : (List ℕ → Bits) → List ℕ → List ℕ
+holding view xs = pack (view xs)
+
 unfoldable pub on-state : (Bits → Bits) → List ℕ → List ℕ
 on-state step s = pack (step (bits s))
 

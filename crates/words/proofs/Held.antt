@@ -10,10 +10,10 @@ use lib.ListN.{length, getD, set}
 use Rattle.std.proofs.shelf.Lists.{getD-past, getD-set-same, getD-set-other, set-past}
 use Rattle.std.proofs.shelf.Tests.{cases-eq, cases-lt}
 use Rattle.sycon.specs.Permutation.{State, Bits, bit, bits}
-use Rattle.sycon.specs.Steps.{Same, on-state}
+use Rattle.sycon.specs.Steps.{Same, holding, on-state}
 use Rattle.sycon.proofs.Digits.{bit-digit, bit-shr, bit-mod}
-use Rattle.sycon.proofs.Packing.{pack-at, pack-same, pack-bits, pack-set, state-pack}
-use Rattle.sycon.proofs.Steps.{Respects, Digits, stepped, stepped-back}
+use Rattle.sycon.proofs.Packing.{pack-at, pack-same, pack-bits, pack-set}
+use Rattle.sycon.proofs.Steps.{Respects, Digits, holding-state, holding-step, holding-step-back}
 use Rattle.words.specs.declared.row.words.Words.{Words}
 use Rattle.words.specs.Words.{rows, word-bits, held, Rows}
 
@@ -29,34 +29,30 @@ pub digits : (ws : List ℕ) → Digits (word-bits ws)
 digits ws j c = bit-digit (getD ws j 0) c
 
 pub held-state : (ws : List ℕ) → State (held ws)
-unfolding held
-held-state ws = state-pack (word-bits ws) (digits ws)
+held-state = holding-state word-bits digits
 
 pub by-row : (f g : Bits) → ((c : ℕ) → c < 64 → f 0 c ≡ g 0 c) → ((c : ℕ) → c < 64 → f 1 c ≡ g 1 c)
     → ((c : ℕ) → c < 64 → f 2 c ≡ g 2 c) → ((c : ℕ) → c < 64 → f 3 c ≡ g 3 c) → ((c : ℕ) → c < 64 → f 4 c ≡ g 4 c) → Same f g
 by-row f g e0 e1 e2 e3 e4 j c hj hc = by-word (λ j. (c : ℕ) → c < 64 → f j c ≡ g j c) e0 e1 e2 e3 e4 j hj c hc
 
 pub held-loaded : (x : Words) (s : List ℕ) → State s → Rows x (bits s) → held (rows x) ≡ s
-unfolding held
+unfolding holding
 held-loaded x s st r =
     let f = word-bits (rows x) in
     pack-same f (bits s) (by-row f (bits s) (r .0) (r .1) (r .2) (r .3) (r .4)) ∙ pack-bits s st
 
--- words whose bits are those of a step
+-- words whose bits are those of a step, and words of which a step makes the present ones
 pub held-step : (step : Bits → Bits) → Respects step → (ws vs : List ℕ) → Same (word-bits vs) (step (word-bits ws))
     → held vs ≡ on-state step (held ws)
-unfolding held
-held-step step r ws vs e = stepped step r (word-bits ws) (word-bits vs) (digits ws) e
+held-step = holding-step word-bits digits
 
--- words of which a step makes the present ones
 pub held-step-back : (step : Bits → Bits) → Respects step → (ws vs : List ℕ) → Same (step (word-bits vs)) (word-bits ws)
     → on-state step (held vs) ≡ held ws
-unfolding held
-held-step-back step r ws vs e = stepped-back step r (word-bits ws) (word-bits vs) (digits vs) e
+held-step-back = holding-step-back word-bits digits
 
 -- one byte read
 held-byte-in : (ws : List ℕ) (k : ℕ) → k < 40 → getD (held ws) k 0 ≡ getD ws (k / 8) 0 / 2 ^ (8 * (k % 8)) % 256
-unfolding held
+unfolding holding
 held-byte-in ws k h =
     let x : ℕ = getD ws (k / 8) 0 in
     pack-at (word-bits ws) k h (x / 2 ^ (8 * (k % 8)) % 256) (mod-lt (x / 2 ^ (8 * (k % 8))) (lit< tt))
@@ -76,7 +72,7 @@ module _ (ws : List ℕ) (n : length ws ≡ 5) (k b y : ℕ) (hb : b < 256)
     (here : (i : ℕ) → i < 8 → bit y (8 * (k % 8) + i) ≡ bit b i)
     (there : (c : ℕ) → c < 64 → (c / 8 ≡ k % 8 → ⊥) → bit y c ≡ bit (getD ws (k / 8) 0) c) where
   set-in : k < 40 → held (set ws (k / 8) y) ≡ set (held ws) k b
-  unfolding held
+  unfolding holding
   set-in h =
       pack-set (word-bits ws) (word-bits (set ws (k / 8) y)) k b h hb
       (λ i l. ap (λ x. bit x (8 * (k % 8) + i)) (getD-set-same ws (k / 8) y 0 (omega arith)) ∙ here i l)

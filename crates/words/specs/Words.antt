@@ -3,14 +3,15 @@ use mathlib.Core.List.{List, [], _∷_}
 use mathlib.Core.Path.{_≡_}
 use Prim.Native.Nat.{ℕ, _<_}
 use lib.ListN.{getD}
-use Rattle.sycon.specs.Permutation.{Bits, bit, pack}
+use Rattle.sycon.specs.Permutation.{Bits, bit}
+use Rattle.sycon.specs.Steps.{holding}
 use Rattle.words.specs.declared.row.words.Words.{Words}
 
 abbrev pub word-bits : List ℕ → Bits
 word-bits ws j c = bit (getD ws j 0) c
 
-unfoldable pub held : List ℕ → List ℕ
-held ws = pack (word-bits ws)
+abbrev pub held : List ℕ → List ℕ
+held = holding word-bits
 
 abbrev pub rows : Words → List ℕ
 rows x = x .a0 ∷ x .a1 ∷ x .a2 ∷ x .a3 ∷ x .a4 ∷ []

@@ -1,6 +1,6 @@
 //! The engine of 64 columns.
 
-ghost use Rattle.columns.specs.Columns.{held};
+ghost use Rattle.columns.specs.Engine.{state-of};
 ghost use lib.ListN.{replicate};
 ghost use mathlib.Core.Path.{_≡_};
 use sycon::engine::Engine;
@@ -19,7 +19,7 @@ pub struct Columns {
 }
 
 pub impl Engine for Columns as ColumnsEngine {
-    ghost state = { λ x. held (x .columns) };
+    ghost state = { state-of };
 
     fn load(&mut self, bytes: &StateBytes) {
         self.columns = super::gather(&Words::load(bytes));
@@ -45,7 +45,7 @@ pub impl TwoWay for Columns as ColumnsTwoWay {
 }
 
 impl Rounds for Columns as ColumnsRounds {
-    ghost held = { λ x. held (x .columns) };
+    ghost held = { state-of };
 
     fn round(&mut self, constant: u64) {
         let mut words = super::scatter(&super::substitute(&self.columns));
@@ -67,7 +67,7 @@ impl RoundsBack for Columns as ColumnsRoundsBack {
 impl Columns {
     /// All 40 bytes are zero.
     pub fn new() -> Self
-        ensures { λ r. ⌜ held (r .columns) ≡ replicate 40 0 ⌝ }
+        ensures { λ r. ⌜ state-of r ≡ replicate 40 0 ⌝ }
     {
         Columns {
             columns: super::gather(&Words::load(&[0; 40])),

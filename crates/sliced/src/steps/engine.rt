@@ -1,5 +1,6 @@
 //! The engine of five words.
 
+ghost use Rattle.sliced.specs.Sliced.{state-of};
 ghost use Rattle.sycon.specs.Permutation.{substituted};
 ghost use Rattle.sycon.specs.Steps.{on-state};
 ghost use Rattle.words.specs.Words.{meant};
@@ -21,7 +22,7 @@ pub struct Sliced {
 }
 
 pub impl Engine for Sliced as SlicedEngine {
-    ghost state = { λ x. meant (x .words) };
+    ghost state = { state-of };
 
     fn load(&mut self, bytes: &StateBytes) {
         self.words = Words::load(bytes);
@@ -47,7 +48,7 @@ pub impl TwoWay for Sliced as SlicedTwoWay {
 }
 
 impl Rounds for Sliced as SlicedRounds {
-    ghost held = { λ x. meant (x .words) };
+    ghost held = { state-of };
 
     fn round(&mut self, constant: u64) {
         let mut words = substitute(&self.words);
@@ -69,7 +70,7 @@ impl RoundsBack for Sliced as SlicedRoundsBack {
 impl Sliced {
     /// All 40 bytes are zero.
     pub fn new() -> Self
-        ensures { λ r. ⌜ meant (r .words) ≡ replicate 40 0 ⌝ }
+        ensures { λ r. ⌜ state-of r ≡ replicate 40 0 ⌝ }
     {
         Sliced {
             words: Words::load(&[0; 40]),

@@ -7,9 +7,9 @@ use Rattle.sycon.specs.Permutation.{bit, column}
 use Rattle.sycon.proofs.Packing.{bit-number, pack-same}
 use Rattle.sycon.proofs.Steps.{column-is}
 use Rattle.words.specs.Words.{rows, word-bits}
-use Rattle.words.specs.Words.{held as held-words}
 use Rattle.words.proofs.Held.{digits}
-use Rattle.columns.specs.Columns.{column-bits, held}
+use Rattle.sycon.specs.Steps.{holding}
+use Rattle.columns.specs.Columns.{column-bits}
 use Rattle.columns.proofs.bits.gather.Needs as need
 
 pub loop-c-again : need.loop-c-again
@@ -21,7 +21,7 @@ loop-c-again c =
     )
 
 pub returns : need.returns
-unfolding held held-words
+unfolding holding
 returns c =
     let ws = rows (c .args .words .now) in
     pack-same (column-bits (c .loop-c .columns)) (word-bits ws)

@@ -1,11 +1,11 @@
 use Rattle.sycon.proofs.Packing.{pack-same}
-use Rattle.words.specs.Words.{held as held-words}
 use Rattle.words.proofs.Held.{by-row}
-use Rattle.columns.specs.Columns.{column-bits, held}
+use Rattle.sycon.specs.Steps.{holding}
+use Rattle.columns.specs.Columns.{column-bits}
 use Rattle.columns.proofs.bits.scatter.Needs as need
 
 pub returns : need.returns
-unfolding held held-words
+unfolding holding
 returns c =
     let f = column-bits (c .args .columns .now) in
     pack-same _ f

@@ -2,6 +2,6 @@
 
 pub mod engine;
 pub mod examples;
-pub mod inverse;
+pub mod laws;
 pub mod published;
 pub mod rounds;

@@ -10,33 +10,31 @@ use columns::ColumnsTwoWay;
 use sliced::Sliced;
 use sliced::SlicedEngine;
 use sliced::SlicedTwoWay;
-use sycon::engine::Engine;
-use sycon::engine::TwoWay;
 
 #[unsafe(no_mangle)]
 pub extern "C" fn sliced_turn(engine: &mut Sliced, r: usize)
     ensures { λ _. ⌜ sliced-state (now (engine .exit)) ≡ permuted r (sliced-state (now (engine .entry))) ⌝ }
 {
-    engine.turn(r);
+    SlicedEngine::turn(engine, r);
 }
 
 #[unsafe(no_mangle)]
 pub extern "C" fn sliced_turn_back(engine: &mut Sliced, r: usize)
     ensures { λ _. ⌜ permuted r (sliced-state (now (engine .exit))) ≡ sliced-state (now (engine .entry)) ⌝ }
 {
-    engine.turn_back(r);
+    SlicedTwoWay::turn_back(engine, r);
 }
 
 #[unsafe(no_mangle)]
 pub extern "C" fn columns_turn(engine: &mut Columns, r: usize)
     ensures { λ _. ⌜ columns-state (now (engine .exit)) ≡ permuted r (columns-state (now (engine .entry))) ⌝ }
 {
-    engine.turn(r);
+    ColumnsEngine::turn(engine, r);
 }
 
 #[unsafe(no_mangle)]
 pub extern "C" fn columns_turn_back(engine: &mut Columns, r: usize)
     ensures { λ _. ⌜ permuted r (columns-state (now (engine .exit))) ≡ columns-state (now (engine .entry)) ⌝ }
 {
-    engine.turn_back(r);
+    ColumnsTwoWay::turn_back(engine, r);
 }

@@ -1,11 +1,11 @@
 -- Bits moved one after the other: bit m, counted through the columns, is digit m % 5 of a column.
 use mathlib.Core.List.{List}
 use mathlib.Core.Logic.{⊎-elim}
-use mathlib.Core.Path.{_≡_, sym, ap, ap₂, _∙_}
+use mathlib.Core.Path.{_≡_, refl, sym, ap, ap₂, _∙_}
 use Prim.Native.Nat.{ℕ, _+_, _*_, _/_, _%_, _≤_, _<_}
 use native.Mathlib.Omega.{arith}
 use Rattle.std.proofs.shelf.Tests.{cases-eq}
-use Rattle.sycon.specs.Permutation.{origin}
+use Rattle.sycon.specs.Permutation.{turned, origin}
 use Rattle.sycon.specs.Steps.{pl2}
 use Rattle.sycon.proofs.Bijections.{origin-once}
 use Rattle.sycon.proofs.Steps.{origin-below}
@@ -43,8 +43,9 @@ counted j c hj = omega arith
 
 -- the column that bit n comes from in step 4
 pl2-column : (n : ℕ) → n < 320 → pl2 n % 64 ≡ origin (n % 5) (n / 5)
-unfolding pl2
+unfolding pl2 origin turned
 pl2-column n h =
+    let rule : pl2 n ≡ 64 * (n % 5) + origin (n % 5) (n / 5) = refl in
     let below : origin (n % 5) (n / 5) < 64 = origin-below (n % 5) (n / 5) (omega arith) (omega arith) in
     omega arith
 

@@ -2,10 +2,12 @@
 
 ghost use Prim.Native.Nat.{ℕ, _+_, _*_, _%_, _<_};
 ghost use Rattle.columns.specs.Columns.{column-bits, held};
-ghost use Rattle.sycon.specs.Permutation.{arranged, bit, column, substituted};
-ghost use Rattle.sycon.specs.Steps.{on-state, pl2};
-ghost use Rattle.words.specs.Words.{meant, rows, word-bits};
+ghost use Rattle.sycon.specs.Permutation.{arranged, bit, sbox, substituted};
+ghost use Rattle.std.specs.Iters.{counting};
+ghost use Rattle.sycon.specs.Steps.{on-state, pl2, pl2-rule};
+ghost use Rattle.words.specs.Words.{meant};
 ghost use lib.ListN.{getD, set};
+ghost use mathlib.Core.List.{map};
 ghost use mathlib.Core.Path.{_≡_};
 use words::Words;
 
@@ -61,7 +63,12 @@ fn joined(d0: u8, d1: u8, d2: u8, d3: u8, d4: u8) -> u8
 // Column c of five words.
 fn column_of(words: &Words, c: usize) -> u8
     requires { ⌜ c < 64 ⌝ }
-    ensures { λ r. ⌜ r ≡ column (word-bits (rows (now (words .entry)))) c ⌝ }
+    ensures { λ r. ⌜ r
+        ≡ bit (now (words .entry) .a0) c
+        + 2 * (bit (now (words .entry) .a1) c
+        + 2 * (bit (now (words .entry) .a2) c
+        + 2 * (bit (now (words .entry) .a3) c
+        + 2 * bit (now (words .entry) .a4) c))) ⌝ }
 {
     joined(
         digit(words.a0, c),
@@ -117,11 +124,17 @@ fn look_up(columns: &ColumnBytes, table: &[u8; 32]) -> ColumnBytes
     replaced
 }
 
+fn sbox_table() -> &'static [u8; 32]
+    ensures { λ r. ⌜ now r ≡ sbox ⌝ }
+{
+    &SBOX
+}
+
 // Step 1.
 fn substitute(columns: &ColumnBytes) -> ColumnBytes
     ensures { λ r. ⌜ held r ≡ on-state substituted (held (now (columns .entry))) ⌝ }
 {
-    look_up(columns, &SBOX)
+    look_up(columns, sbox_table())
 }
 
 // Step 1, taken back.
@@ -131,12 +144,19 @@ fn unsubstitute(columns: &ColumnBytes) -> ColumnBytes
     look_up(columns, &INVERSE_SBOX)
 }
 
+// The table has its rule at every entry.
+fn pl2_table() -> &'static [u16; 320]
+    ensures { λ r. ⌜ now r ≡ map pl2-rule (counting 0 320) ⌝ }
+{
+    &PL2
+}
+
 // The column that bit n, counted through the columns, comes from in step 4. Its word is that of bit n.
 fn origin(n: usize) -> usize
     requires { ⌜ n < 320 ⌝ }
     ensures { λ r. ⌜ r ≡ pl2 n % 64 ⌝ }
 {
-    PL2[n] as usize % 64
+    pl2_table()[n] as usize % 64
 }
 
 // Step 4.

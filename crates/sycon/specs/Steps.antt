@@ -1,9 +1,11 @@
 -- A step of the round as a map of states, for engines that take the steps one by one.
 use mathlib.Core.Path.{_≡_}
-use mathlib.Core.List.{List}
+use mathlib.Core.List.{List, []}
 use Prim.Native.Nat.{ℕ, _+_, _*_, _/_, _%_, _<_}
 use lib.Bits.{bitXor}
-use Rattle.sycon.specs.Permutation.{Bits, bits, pack, substituted, diffused, added, origin, arranged}
+use lib.ListN.{getD}
+use Rattle.sycon.specs.Permutation.{Bits, bits, pack, of-word, substituted, diffused, added}
+use Rattle.sycon.specs.Permutation.{quarter-turn, byte-places, arranged}
 
 -- the same digit in each column of each word
 abbrev pub Same : Bits → Bits → Type 0
@@ -25,5 +27,12 @@ abbrev pub four-steps : ℕ → List ℕ → List ℕ
 four-steps k s = on-state arranged (on-state (added k) (on-state diffused (on-state substituted s)))
 
 -- step 4 as a list of 320 bits: entry 5c + j is the number of the bit that comes to column c of word j
+abbrev pub pl2-rule : ℕ → ℕ
+pl2-rule n =
+    let j : ℕ = n % 5 in
+    let c : ℕ = n / 5 in
+    let q : ℕ = 8 * getD (getD byte-places j []) (c / 8) 0 + c % 8 in
+    64 * j + (16 * (q / 16) + (q % 16 + of-word quarter-turn j) % 16)
+
 unfoldable pub pl2 : ℕ → ℕ
-pl2 n = 64 * (n % 5) + origin (n % 5) (n / 5)
+pl2 n = pl2-rule n

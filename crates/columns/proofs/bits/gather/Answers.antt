@@ -13,6 +13,7 @@ use Rattle.columns.specs.Columns.{column-bits}
 use Rattle.columns.proofs.bits.gather.Needs as need
 
 pub loop-c-again : need.loop-c-again
+unfolding column
 loop-c-again c =
     let ws = rows (c .args .words .now) in (
       length-set _ _ _ ∙ c .loop-c .inv .0,

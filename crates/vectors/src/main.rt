@@ -10,6 +10,7 @@ use sealing::seal;
 use sliced::Sliced;
 use sliced::SlicedEngine;
 use std::io;
+use sycon::engine;
 use sycon::engine::Engine;
 
 // the key is the nonce too
@@ -49,7 +50,7 @@ fn permutation(rt: &LibcRuntime, engine: &mut Sliced) -> io::Result<()> {
     compare(
         rt,
         "14 rounds on 20 bytes 00 and 20 bytes AA",
-        &bytes_of(engine),
+        &engine::bytes(engine),
         PERMUTED,
     )
 }
@@ -58,14 +59,6 @@ fn example() -> [u8; 40] {
     let mut state = [0u8; 40];
     for k in 20..40 {
         state[k] = 0xAA;
-    }
-    state
-}
-
-fn bytes_of(engine: &Sliced) -> [u8; 40] {
-    let mut state = [0u8; 40];
-    for k in 0..40 {
-        state[k] = engine.byte(k);
     }
     state
 }

@@ -6,22 +6,23 @@ ghost use lib.ListN.{getD, set};
 ghost use mathlib.Core.List.{List};
 ghost use mathlib.Core.Path.{_≡_};
 
-/// The bytes of a state.
+/// The bytes of a state: byte k holds the bits s(8k) to s(8k + 7), the first as its lowest bit.
 pub type StateBytes = [u8; 40];
 
-/// An engine means a state of 40 bytes, and can permute it.
-/// No call refuses, and none asks anything of its caller.
+/// An engine means a state of 40 bytes, and can permute it. How it keeps them is its own affair: each call is promised by
+/// the bytes alone. No call refuses, and none asks anything of its caller.
 pub trait Engine {
     /// The state that an engine means.
     ghost state: { Self → List ℕ };
 
+    /// It is 40 numbers, each below 256.
     law whole: { (x : Self) → State (state x) };
 
     /// The state becomes these bytes.
     fn load(&mut self, bytes: &StateBytes)
         ensures { λ _. ⌜ state (now (self .exit)) ≡ now (bytes .entry) ⌝ };
 
-    /// Byte `k`, or 0 where there is none.
+    /// Byte `k`, or 0 where there is none. Nothing changes.
     fn byte(&self, k: usize) -> u8
         ensures { λ r. ⌜ r ≡ getD (state (now (self .entry))) k 0 ⌝ };
 

@@ -15,7 +15,8 @@ use Rattle.words.proofs.row.words.Words.with_constant.Needs as need
 untouched : (x k : ℕ) → bit x k ≡ bitXor (bit x k) (bit 0 k)
 untouched x k = sym (ap (bitXor (bit x k)) (bit-zero k) ∙ xor-zero-r (bit x k))
 
-in-a2 : (x : Words) (k : ℕ) → meant (record { a0 = x .a0; a1 = x .a1; a2 = bitXor (x .a2) k; a3 = x .a3; a4 = x .a4 }) ≡ on-state (added k) (meant x)
+in-a2 : (x : Words) (k : ℕ)
+    → meant (record { a0 = x .a0; a1 = x .a1; a2 = bitXor (x .a2) k; a3 = x .a3; a4 = x .a4 }) ≡ on-state (added k) (meant x)
 unfolding added
 in-a2 x k =
     held-step (added k) (respects-added k) (rows x) _

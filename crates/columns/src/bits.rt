@@ -15,13 +15,13 @@ pub mod engine;
 
 type ColumnBytes = [u8; 64];
 
-// Bit j of a byte.
-fn bit_of(x: u8, j: usize) -> u8
-    requires { ⌜ j < 8 ⌝ }
-    ensures value { λ r. ⌜ r ≡ bit x j ⌝ }
+// Bit k of a number: digit k of a column, or column k of a word.
+fn digit(x: u64, k: usize) -> u8
+    requires { ⌜ k < 64 ⌝ }
+    ensures value { λ r. ⌜ r ≡ bit x k ⌝ }
     ensures digit { λ r. ⌜ r < 2 ⌝ }
 {
-    (x >> j) & 1
+    ((x >> k) & 1) as u8
 }
 
 // The byte with bit j replaced.
@@ -41,15 +41,6 @@ fn put_bit(columns: &mut ColumnBytes, c: usize, j: usize, b: u8)
         → column-bits (now (columns .exit)) i d ≡ column-bits (now (columns .entry)) i d) ⌝ }
 {
     columns[c] = with_bit(columns[c], j, b);
-}
-
-// Column c of a word.
-fn digit(x: u64, c: usize) -> u8
-    requires { ⌜ c < 64 ⌝ }
-    ensures value { λ r. ⌜ r ≡ bit x c ⌝ }
-    ensures digit { λ r. ⌜ r < 2 ⌝ }
-{
-    ((x >> c) & 1) as u8
 }
 
 // The number of a column whose digits these are, A_0's the units.
@@ -86,7 +77,7 @@ fn row_of(columns: &ColumnBytes, j: usize) -> u64
 {
     let mut row = 0;
     for c in 0..64 {
-        row |= (bit_of(columns[c], j) as u64) << c;
+        row |= (digit(columns[c] as u64, j) as u64) << c;
     }
     row
 }
@@ -166,7 +157,7 @@ fn arrange(columns: &ColumnBytes) -> ColumnBytes
     let mut moved = [0u8; 64];
     for n in 0..320 {
         let j = n % 5;
-        put_bit(&mut moved, n / 5, j, bit_of(columns[origin(n)], j));
+        put_bit(&mut moved, n / 5, j, digit(columns[origin(n)] as u64, j));
     }
     moved
 }
@@ -178,7 +169,7 @@ fn unarrange(columns: &ColumnBytes) -> ColumnBytes
     let mut moved = [0u8; 64];
     for n in 0..320 {
         let j = n % 5;
-        put_bit(&mut moved, origin(n), j, bit_of(columns[n / 5], j));
+        put_bit(&mut moved, origin(n), j, digit(columns[n / 5] as u64, j));
     }
     moved
 }
@@ -208,7 +199,7 @@ fn byte_at(columns: &ColumnBytes, k: usize) -> u8
     let first = 8 * (k % 8);
     let mut byte = 0;
     for i in 0..8 {
-        byte = with_bit(byte, i, bit_of(columns[first + i], j));
+        byte = with_bit(byte, i, digit(columns[first + i] as u64, j));
     }
     byte
 }
@@ -220,7 +211,7 @@ fn put_byte(columns: &mut ColumnBytes, k: usize, b: u8)
     let j = k / 8;
     let first = 8 * (k % 8);
     for i in 0..8 {
-        put_bit(columns, first + i, j, bit_of(b, i));
+        put_bit(columns, first + i, j, digit(b as u64, i));
     }
 }
 

@@ -34,5 +34,6 @@ pl2-rule n =
     let q : ℕ = 8 * getD (getD byte-places j []) (c / 8) 0 + c % 8 in
     64 * j + (16 * (q / 16) + (q % 16 + of-word quarter-turn j) % 16)
 
+-- the same, shut: a rule that computes is what a table is compared with, and a name is what proofs go by
 unfoldable pub pl2 : ℕ → ℕ
 pl2 n = pl2-rule n

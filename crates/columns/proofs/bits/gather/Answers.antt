@@ -1,7 +1,7 @@
 use mathlib.Core.Path.{ap, _∙_}
-use Prim.Native.Nat.{ℕ}
+use Prim.Native.Nat.{ℕ, _<_}
 use native.Mathlib.Omega.{arith}
-use lib.ListN.{length-set}
+use lib.ListN.{length, length-set}
 use Rattle.std.proofs.shelf.Edits.{fill-by-more}
 use Rattle.sycon.specs.Permutation.{bit, column}
 use Rattle.sycon.proofs.Packing.{bit-number, pack-same}
@@ -15,10 +15,10 @@ use Rattle.columns.proofs.bits.gather.Needs as need
 pub loop-c-again : need.loop-c-again
 unfolding column
 loop-c-again c =
-    let ws = rows (c .args .words .now) in (
+    let ws = rows (c .args .words .now) in
+    let room : c .loop-c .c < length (c .loop-c .columns) = omega (arith, c .loop-c .inv .0) in (
       length-set _ _ _ ∙ c .loop-c .inv .0,
-      rw (c .column-of .ensures)
-          (fill-by-more (column (word-bits ws)) (c .loop-c .columns) (c .loop-c .c) 0 (omega (arith, c .loop-c .inv .0)) (c .loop-c .inv .1)),
+      rw (c .column-of .ensures) (fill-by-more (column (word-bits ws)) (c .loop-c .columns) (c .loop-c .c) 0 room (c .loop-c .inv .1)),
     )
 
 pub returns : need.returns

@@ -37,14 +37,14 @@ loop-c-holds c = (λ i h. absurd (omega arith), λ i h l. bit-zero i)
 pub loop-c-again : need.loop-c-again
 loop-c-again c =
     let row = c .loop-c .row in
-    let d = c .bit-of .result in
+    let d = c .digit .result in
     let n = c .loop-c .c in
     let h : n < 64 = omega arith in
-    let digit = c .bit-of .ensures .digit in (
+    let digit = c .digit .ensures .digit in (
       λ i l. ⊎-elim
           (λ (e : i ≡ n).
           ap (bit (longer row d n h digit)) e ∙ longer-here row d n h digit (c .loop-c .inv .1 n (omega arith) h)
-          ∙ c .bit-of .ensures .value ∙ ap (column-bits (c .args .columns .now) (c .args .j)) (sym e))
+          ∙ c .digit .ensures .value ∙ ap (column-bits (c .args .columns .now) (c .args .j)) (sym e))
           (λ (o : i ≡ n → ⊥).
           let less : i < n = omega arith in
           longer-there row d n h digit i (omega arith) (inl less) ∙ c .loop-c .inv .0 i less)

@@ -18,7 +18,7 @@ loop-n-again c =
       search needs,
       moved-more (λ m. pl2 m % 64) (λ m. m / 5) (c .args .columns .now) (c .loop-n .moved) next n
           (origins-apart n (omega arith)) (c .loop-n .inv .1)
-          (ap (column-bits next (n % 5)) (sym from-n) ∙ c .put-bit .ensures .here ∙ c .bit-of .ensures .value)
+          (ap (column-bits next (n % 5)) (sym from-n) ∙ c .put-bit .ensures .here ∙ c .digit .ensures .value)
           (λ j d hj o. c .put-bit .ensures .there j d hj (λ e f. o (e ∙ from-n) f)),
     )
 

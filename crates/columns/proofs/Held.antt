@@ -8,12 +8,12 @@ use lib.ListN.{getD}
 use Rattle.sycon.specs.Permutation.{State, Bits, bit, sbox, column, substituted}
 use Rattle.sycon.specs.Steps.{Same, on-state}
 use Rattle.sycon.proofs.Digits.{bit-digit, bit-mod}
-use Rattle.sycon.proofs.Packing.{number-bits}
+use Rattle.sycon.proofs.Packing.{number-bits, bit-number}
 use Rattle.sycon.proofs.Steps.{Respects, Digits, column-is, holding-state, holding-step, holding-step-back, respects-substituted}
 use Rattle.sycon.proofs.Tests.{every, at}
 use Rattle.columns.specs.Columns.{column-bits, held}
 
-digits : (cs : List ℕ) → Digits (column-bits cs)
+pub digits : (cs : List ℕ) → Digits (column-bits cs)
 digits cs j c = bit-digit (getD cs c 0) j
 
 pub held-state : (cs : List ℕ) → State (held cs)
@@ -27,6 +27,11 @@ held-step = holding-step column-bits digits
 pub held-step-back : (step : Bits → Bits) → Respects step → (cs ds : List ℕ) → Same (step (column-bits ds)) (column-bits cs)
     → on-state step (held ds) ≡ held cs
 held-step-back = holding-step-back column-bits digits
+
+-- columns that are the numbers of the bits f have these bits
+pub columns-same : (f : Bits) → Digits f → (cs : List ℕ) → ((c : ℕ) → c < 64 → getD cs c 0 ≡ column f c) → Same (column-bits cs) f
+columns-same f d cs e j c hj hc =
+    ap (λ x. bit x j) (e c hc ∙ column-is f c) ∙ bit-number 5 (λ j. f j c) (λ j. d j c) j hj
 
 -- of a column only its five bits count
 column-of-bits : (cs : List ℕ) (c : ℕ) → column (column-bits cs) c ≡ getD cs c 0 % 32

@@ -2,9 +2,9 @@
 
 ghost use Prim.Native.Nat.{ℕ, _+_, _*_, _%_, _<_};
 ghost use Rattle.columns.specs.Columns.{column-bits, held};
-ghost use Rattle.sycon.specs.Permutation.{arranged, bit, sbox, substituted};
 ghost use Rattle.std.specs.Iters.{counting};
-ghost use Rattle.sycon.specs.Steps.{on-state, pl2, pl2-rule};
+ghost use Rattle.sycon.specs.Permutation.{arranged, bit, origin, sbox, substituted};
+ghost use Rattle.sycon.specs.Steps.{on-state, pl2-rule};
 ghost use Rattle.words.specs.Words.{meant};
 ghost use lib.ListN.{getD, set};
 ghost use mathlib.Core.List.{map};
@@ -146,12 +146,32 @@ fn pl2_table() -> &'static [u16; 320]
     &PL2
 }
 
-// The column that bit n, counted through the columns, comes from in step 4. Its word is that of bit n.
-fn origin(n: usize) -> usize
-    requires { ⌜ n < 320 ⌝ }
-    ensures { λ r. ⌜ r ≡ pl2 n % 64 ⌝ }
+// The column that comes to column c of word j in step 4.
+fn origin_of(c: usize, j: usize) -> usize
+    requires { ⌜ c < 64 ⌝ ∗ ⌜ j < 5 ⌝ }
+    ensures at { λ r. ⌜ r ≡ origin j c ⌝ }
+    ensures within { λ r. ⌜ r < 64 ⌝ }
 {
-    pl2_table()[n] as usize % 64
+    pl2_table()[5 * c + j] as usize % 64
+}
+
+// Column c after step 4.
+fn arranged_column(columns: &ColumnBytes, c: usize) -> u8
+    requires { ⌜ c < 64 ⌝ }
+    ensures { λ r. ⌜ r
+        ≡ column-bits (now (columns .entry)) 0 (origin 0 c)
+        + 2 * (column-bits (now (columns .entry)) 1 (origin 1 c)
+        + 2 * (column-bits (now (columns .entry)) 2 (origin 2 c)
+        + 2 * (column-bits (now (columns .entry)) 3 (origin 3 c)
+        + 2 * column-bits (now (columns .entry)) 4 (origin 4 c)))) ⌝ }
+{
+    joined(
+        digit(columns[origin_of(c, 0)] as u64, 0),
+        digit(columns[origin_of(c, 1)] as u64, 1),
+        digit(columns[origin_of(c, 2)] as u64, 2),
+        digit(columns[origin_of(c, 3)] as u64, 3),
+        digit(columns[origin_of(c, 4)] as u64, 4),
+    )
 }
 
 // Step 4.
@@ -159,21 +179,21 @@ fn arrange(columns: &ColumnBytes) -> ColumnBytes
     ensures { λ r. ⌜ held r ≡ on-state arranged (held (now (columns .entry))) ⌝ }
 {
     let mut moved = [0u8; 64];
-    for n in 0..320 {
-        let j = n % 5;
-        put_bit(&mut moved, n / 5, j, digit(columns[origin(n)] as u64, j));
+    for c in 0..64 {
+        moved[c] = arranged_column(columns, c);
     }
     moved
 }
 
-// Step 4, taken back.
+// Step 4, taken back: bit n, counted through the columns, is put where it came from.
 fn unarrange(columns: &ColumnBytes) -> ColumnBytes
     ensures { λ r. ⌜ on-state arranged (held r) ≡ held (now (columns .entry)) ⌝ }
 {
     let mut moved = [0u8; 64];
     for n in 0..320 {
+        let c = n / 5;
         let j = n % 5;
-        put_bit(&mut moved, origin(n), j, digit(columns[n / 5] as u64, j));
+        put_bit(&mut moved, origin_of(c, j), j, digit(columns[c] as u64, j));
     }
     moved
 }

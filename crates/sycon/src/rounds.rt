@@ -11,12 +11,14 @@ pub trait Rounds {
     /// The state that is held, as 40 bytes.
     ghost held: { Self → List ℕ };
 
+    /// The four steps of a round.
     fn round(&mut self, constant: u64)
         ensures { λ _. ⌜ held (now (self .exit)) ≡ four-steps constant (held (now (self .entry))) ⌝ };
 }
 
 /// What can also take one round back.
 pub trait RoundsBack: Rounds {
+    /// The state becomes one that the four steps take to the present one.
     fn round_back(&mut self, constant: u64)
         ensures { λ _. ⌜ four-steps constant (Self·Rounds .held (now (self .exit))) ≡ Self·Rounds .held (now (self .entry)) ⌝ };
 }

@@ -1,21 +1,27 @@
-use mathlib.Core.Path.{sym, ap, _∙_}
+use mathlib.Core.Path.{_∙_}
+use Prim.Native.Nat.{_<_}
 use native.Mathlib.Omega.{arith}
-use Prim.Native.Nat.{_/_, _%_}
-use Rattle.sycon.specs.Permutation.{arranged}
-use Rattle.sycon.specs.Steps.{pl2}
+use lib.ListN.{length, length-set}
+use Rattle.std.proofs.shelf.Edits.{fill-by-more}
+use Rattle.sycon.specs.Permutation.{column, origin, arranged}
 use Rattle.sycon.proofs.Steps.{respects-arranged}
 use Rattle.columns.specs.Columns.{column-bits}
-use Rattle.columns.proofs.Held.{held-step}
-use Rattle.columns.proofs.Moving.{moved-all, counted, pl2-at}
+use Rattle.columns.proofs.Held.{digits, held-step, columns-same}
 use Rattle.columns.proofs.bits.arrange.Needs as need
+
+pub loop-c-again : need.loop-c-again
+unfolding column arranged
+loop-c-again c =
+    let f = arranged (column-bits (c .args .columns .now)) in
+    let room : c .loop-c .c < length (c .loop-c .moved) = omega (arith, c .loop-c .inv .0) in (
+      length-set _ _ _ ∙ c .loop-c .inv .0,
+      rw (c .arranged-column .ensures) (fill-by-more (column f) (c .loop-c .moved) (c .loop-c .c) 0 room (c .loop-c .inv .1)),
+    )
 
 pub returns : need.returns
 unfolding arranged
 returns c =
     let old = c .args .columns .now in
-    let new = c .loop-n .moved in
-    held-step arranged respects-arranged old new
-    (λ j i hj hi.
-    ap (column-bits new j) (sym (counted j i hj))
-    ∙ moved-all (λ m. m / 5) (λ m. pl2 m % 64) old new (c .loop-n .n) (omega arith) (c .loop-n .inv .1) j i hj hi
-    ∙ ap (column-bits old j) (pl2-at j i hj hi))
+    held-step arranged respects-arranged old (c .loop-c .moved)
+    (columns-same (arranged (column-bits old)) (λ j i. digits old j (origin j i)) (c .loop-c .moved)
+    (λ i h. c .loop-c .inv .1 i (omega arith)))

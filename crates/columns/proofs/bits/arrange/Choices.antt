@@ -1,9 +1,10 @@
 use mathlib.Core.Path.{_≡_}
-use Prim.Native.Nat.{_/_, _%_}
-use lib.ListN.{length}
-use Rattle.sycon.specs.Steps.{pl2}
-use Rattle.columns.proofs.Moving.{Moved}
+use Prim.Native.Nat.{ℕ, _<_}
+use lib.ListN.{length, getD}
+use Rattle.sycon.specs.Permutation.{column, arranged}
+use Rattle.columns.specs.Columns.{column-bits}
 use Rattle.columns.proofs.bits.arrange.Given as given
 
-abbrev pub Inv-loop-n : given.InvT-loop-n
-Inv-loop-n l = (length (l .moved) ≡ 64) × Moved (λ m. m / 5) (λ m. pl2 m % 64) (l .columns) (l .moved) (l .n)
+abbrev pub Inv-loop-c : given.InvT-loop-c
+Inv-loop-c l =
+    (length (l .moved) ≡ 64) × ((i : ℕ) → i < l .c → getD (l .moved) i 0 ≡ column (arranged (column-bits (l .columns))) i)

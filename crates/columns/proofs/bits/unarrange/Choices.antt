@@ -1,9 +1,7 @@
 use mathlib.Core.Path.{_≡_}
-use Prim.Native.Nat.{_/_, _%_}
 use lib.ListN.{length}
-use Rattle.sycon.specs.Steps.{pl2}
-use Rattle.columns.proofs.Moving.{Moved}
+use Rattle.columns.proofs.Moving.{Put-back}
 use Rattle.columns.proofs.bits.unarrange.Given as given
 
 abbrev pub Inv-loop-n : given.InvT-loop-n
-Inv-loop-n l = (length (l .moved) ≡ 64) × Moved (λ m. pl2 m % 64) (λ m. m / 5) (l .columns) (l .moved) (l .n)
+Inv-loop-n l = (length (l .moved) ≡ 64) × Put-back (l .columns) (l .moved) (l .n)

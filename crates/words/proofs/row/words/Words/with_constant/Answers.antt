@@ -1,4 +1,3 @@
-use mathlib.Core.List.{List}
 use mathlib.Core.Path.{_≡_, sym, ap, _∙_}
 use Prim.Native.Nat.{ℕ}
 use lib.Bits.{bitXor, xor-zero-r}
@@ -8,7 +7,7 @@ use Rattle.sycon.proofs.Bijections.{added-twice}
 use Rattle.sycon.proofs.Digits.{bit-xor, bit-zero}
 use Rattle.sycon.proofs.Steps.{respects-added}
 use Rattle.words.specs.declared.row.words.Words.{Words}
-use Rattle.words.specs.Words.{rows, word-bits, held, meant}
+use Rattle.words.specs.Words.{rows, word-bits, meant}
 use Rattle.words.proofs.Held.{held-state, held-step, by-row}
 use Rattle.words.proofs.row.words.Words.with_constant.Needs as need
 

@@ -1,5 +1,7 @@
 //! The engine of five words and the engine of 64 columns agree on every state, at every number of rounds, ahead and back.
 
+#![tactic(auto)]
+
 ghost use Rattle.sycon.specs.Permutation.{permuted};
 ghost use Rattle.std.specs.Prelude.{◌≡◌};
 

@@ -1,5 +1,7 @@
 //! The engines' permutation and sealing with the engine of five words, for C programs that time them.
 
+#![tactic(auto)]
+
 ghost use Rattle.bench.specs.Codes.{code as code_of_lem, coded};
 ghost use Rattle.columns.specs.Engine.{state_of as columns_state};
 ghost use Rattle.sealing.specs.Calls.{sealing as sealing_call};

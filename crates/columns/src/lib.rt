@@ -1,5 +1,7 @@
 //! The engine of 64 columns.
 
+#![tactic(auto)]
+
 mod bits;
 
 pub use bits::engine::Columns;

@@ -1,5 +1,7 @@
 //! Sealing, opening and digest, written once for any engine and any rate.
 
+#![tactic(auto)]
+
 mod mode;
 
 pub use mode::digest::digest;

@@ -31,7 +31,7 @@ pub struct Sealed {
 pub fn seal_example<E: Engine>(engine: &mut E) -> Sealed
     ensures bytes { result.bytes ≡ published_bytes }
     ensures tag { result.tag ≡ published_seal }
-    ensures clear { state engine.new ≡ replicate 40 0 }
+    ensures clear { E.state engine.new ≡ replicate 40 0 }
 {
     bytes_stand();
     seal_stands();
@@ -41,7 +41,7 @@ pub fn seal_example<E: Engine>(engine: &mut E) -> Sealed
 /// Digests the bytes whose digest was published.
 pub fn digest_example<E: Engine>(engine: &mut E) -> [u8; 32]
     ensures digest { result ≡ published_digest }
-    ensures clear { state engine.new ≡ replicate 40 0 }
+    ensures clear { E.state engine.new ≡ replicate 40 0 }
 {
     digest_stands();
     digest_whole(engine, &DIGESTED)
@@ -59,7 +59,7 @@ fn seal_whole<E: Engine>(
         ≡ sealed_64 key.now nonce.now label.now text.now }
     ensures tag { result.tag
         ≡ seal_64 key.now nonce.now label.now text.now }
-    ensures clear { state engine.new ≡ replicate 40 0 }
+    ensures clear { E.state engine.new ≡ replicate 40 0 }
 {
     let mut bytes = [0u8; 39];
     let mut tag = [0u8; 16];
@@ -69,7 +69,7 @@ fn seal_whole<E: Engine>(
 
 fn digest_whole<E: Engine>(engine: &mut E, text: &[u8; 39]) -> [u8; 32]
     ensures digest { result ≡ digesting text.now }
-    ensures clear { state engine.new ≡ replicate 40 0 }
+    ensures clear { E.state engine.new ≡ replicate 40 0 }
 {
     let mut place = [0u8; 32];
     let _ = digest(engine, text, &mut place);

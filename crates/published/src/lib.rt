@@ -1,5 +1,7 @@
 //! The published examples of sealing and of the digest: whatever the engine, what comes out is what was published.
 
+#![tactic(auto)]
+
 mod example;
 
 pub use example::{Sealed, digest_example, seal_example};

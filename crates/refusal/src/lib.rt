@@ -1,5 +1,7 @@
 //! Why a call refuses.
 
+#![tactic(auto)]
+
 ghost use Rattle.refusal.specs.Numbers.{number as number_of_lem, word as word_of};
 ghost use Rattle.std.specs.Prelude.{◌≡◌};
 

@@ -15,14 +15,14 @@ pub mod seal;
 
 // XORs `x` into byte `place` of the state.
 fn add_byte<E: Engine>(engine: &mut E, place: usize, x: u8)
-    ensures { state engine.new ≡ with_byte place x (state engine.old) }
+    ensures { E.state engine.new ≡ with_byte place x (E.state engine.old) }
 {
     let old = engine.byte(place);
     engine.set_byte(place, old ^ x);
 }
 
 fn add_bytes<E: Engine>(engine: &mut E, bytes: &[u8])
-    ensures { state engine.new ≡ with_bytes 0 bytes.now (state engine.old) }
+    ensures { E.state engine.new ≡ with_bytes 0 bytes.now (E.state engine.old) }
 {
     for (i, x) in bytes.iter().enumerate() {
         add_byte(engine, i, *x);
@@ -37,7 +37,7 @@ fn domain_byte(domain: u8) -> u8
 }
 
 fn add_domain<E: Engine>(engine: &mut E, domain: u8)
-    ensures { state engine.new ≡ with_domain domain (state engine.old) }
+    ensures { E.state engine.new ≡ with_domain domain (E.state engine.old) }
 {
     add_byte(engine, 39, domain_byte(domain));
 }
@@ -45,8 +45,8 @@ fn add_domain<E: Engine>(engine: &mut E, domain: u8)
 /// Absorbs a block of its own: XORs it into the first bytes of the state and the domain into the last three bits, and
 /// permutes. Bytes past the state's 40 go nowhere, and of a domain above 7 the lowest three bits count.
 pub fn absorb<E: Engine>(engine: &mut E, block: &[u8], domain: u8, rounds: usize)
-    ensures { state engine.new
-        ≡ absorbed rounds block.now domain (state engine.old) }
+    ensures { E.state engine.new
+        ≡ absorbed rounds block.now domain (E.state engine.old) }
 {
     add_bytes(engine, block);
     add_domain(engine, domain);
@@ -55,10 +55,10 @@ pub fn absorb<E: Engine>(engine: &mut E, block: &[u8], domain: u8, rounds: usize
 
 // One byte more at `place`; gives the place of the next.
 fn feed<R: Rate, E: Engine>(engine: &mut E, place: usize, x: u8, domain: u8) -> usize
-    requires { place < setting.block }
-    ensures place { result ≡ next setting place }
-    ensures within { result < setting.block }
-    ensures state { state engine.new ≡ fed setting domain place x (state engine.old) }
+    requires { place < R.setting.block }
+    ensures place { result ≡ next R.setting place }
+    ensures within { result < R.setting.block }
+    ensures state { E.state engine.new ≡ fed R.setting domain place x (E.state engine.old) }
 {
     add_byte(engine, place, x);
     if place + 1 == R::block_len() {
@@ -71,10 +71,10 @@ fn feed<R: Rate, E: Engine>(engine: &mut E, place: usize, x: u8, domain: u8) -> 
 }
 
 fn feed_all<R: Rate, E: Engine>(engine: &mut E, bytes: &[u8], domain: u8) -> usize
-    ensures place { result ≡ place_after setting 0 bytes.now }
-    ensures within { result < setting.block }
-    ensures state { state engine.new
-        ≡ state_after setting domain 0 bytes.now (state engine.old) }
+    ensures place { result ≡ place_after R.setting 0 bytes.now }
+    ensures within { result < R.setting.block }
+    ensures state { E.state engine.new
+        ≡ state_after R.setting domain 0 bytes.now (E.state engine.old) }
 {
     let mut place = 0;
     for x in bytes {
@@ -85,7 +85,7 @@ fn feed_all<R: Rate, E: Engine>(engine: &mut E, bytes: &[u8], domain: u8) -> usi
 
 // The padding and the last domain.
 fn end<R: Rate, E: Engine>(engine: &mut E, place: usize, domain: u8)
-    ensures { state engine.new ≡ ended setting domain place (state engine.old) }
+    ensures { E.state engine.new ≡ ended R.setting domain place (E.state engine.old) }
 {
     add_byte(engine, place, 1);
     add_domain(engine, domain);
@@ -93,8 +93,8 @@ fn end<R: Rate, E: Engine>(engine: &mut E, place: usize, domain: u8)
 }
 
 fn absorb_message<R: Rate, E: Engine>(engine: &mut E, bytes: &[u8], domain: u8, last: u8)
-    ensures { state engine.new
-        ≡ message setting domain last bytes.now (state engine.old) }
+    ensures { E.state engine.new
+        ≡ message R.setting domain last bytes.now (E.state engine.old) }
 {
     let place = feed_all::<R, E>(engine, bytes, domain);
     end::<R, E>(engine, place, last);
@@ -113,8 +113,8 @@ fn padded_key(key: &[u8]) -> [u8; 17]
 // Both key blocks. In blocks of 8 bytes the key leaves no room for the 1 bit.
 fn absorb_key<R: Rate, E: Engine>(engine: &mut E, key: &[u8], first: u8, second: u8)
     requires { length key.now ≡ 16 }
-    ensures { state engine.new
-        ≡ keyed setting first second key.now (state engine.old) }
+    ensures { E.state engine.new
+        ≡ keyed R.setting first second key.now (E.state engine.old) }
 {
     let padded = padded_key(key);
     let block = R::block_len();
@@ -146,7 +146,7 @@ fn start_bytes(key: &[u8], nonce: &[u8], vector: &[u8]) -> [u8; 40]
 
 fn start<R: Rate, E: Engine>(engine: &mut E, key: &[u8], nonce: &[u8])
     requires { (length key.now ≡ 16) × (length nonce.now ≡ 16) }
-    ensures { state engine.new ≡ started setting key.now nonce.now }
+    ensures { E.state engine.new ≡ started R.setting key.now nonce.now }
 {
     let vector = R::vector();
     engine.load(&start_bytes(key, nonce, &vector));
@@ -155,7 +155,7 @@ fn start<R: Rate, E: Engine>(engine: &mut E, key: &[u8], nonce: &[u8])
 }
 
 fn absorb_label<R: Rate, E: Engine>(engine: &mut E, label: &[u8])
-    ensures { state engine.new ≡ labelled setting label.now (state engine.old) }
+    ensures { E.state engine.new ≡ labelled R.setting label.now (E.state engine.old) }
 {
     if !label.is_empty() {
         absorb_message::<R, E>(engine, label, 1, 2);
@@ -173,7 +173,7 @@ fn fits(key: &[u8], nonce: &[u8], tag: &[u8], needed: usize, place: usize) -> bo
 // Bytes of the state, from place `at` on.
 fn read_bytes<const N: usize, E: Engine>(engine: &E, at: usize) -> [u8; N]
     requires { at + N ≤ 40 }
-    ensures { result ≡ take N (drop at (state engine.now)) }
+    ensures { result ≡ take N (drop at (E.state engine.now)) }
 {
     let mut bytes = [0u8; N];
     for i in 0..N {
@@ -185,8 +185,8 @@ fn read_bytes<const N: usize, E: Engine>(engine: &E, at: usize) -> [u8; N]
 // The end of a message under the key, and its seal.
 fn finish<R: Rate, E: Engine>(engine: &mut E, key: &[u8]) -> [u8; 16]
     requires { length key.now ≡ 16 }
-    ensures tag { result ≡ take 16 (drop 16 (keyed setting 4 4 key.now (state engine.old))) }
-    ensures clear { state engine.new ≡ replicate 40 0 }
+    ensures tag { result ≡ take 16 (drop 16 (keyed R.setting 4 4 key.now (E.state engine.old))) }
+    ensures clear { E.state engine.new ≡ replicate 40 0 }
 {
     absorb_key::<R, E>(engine, key, 4, 4);
     let tag = read_bytes::<16, E>(engine, 16);
@@ -196,8 +196,8 @@ fn finish<R: Rate, E: Engine>(engine: &mut E, key: &[u8]) -> [u8; 16]
 
 fn prepare<R: Rate, E: Engine>(engine: &mut E, key: &[u8], nonce: &[u8], label: &[u8])
     requires { (length key.now ≡ 16) × (length nonce.now ≡ 16) }
-    ensures { state engine.new
-        ≡ ready setting key.now nonce.now label.now }
+    ensures { E.state engine.new
+        ≡ ready R.setting key.now nonce.now label.now }
 {
     start::<R, E>(engine, key, nonce);
     absorb_label::<R, E>(engine, label);

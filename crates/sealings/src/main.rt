@@ -1,6 +1,8 @@
 //! Sealing, opening and digest with both engines at both rates. What is expected of the lines of the input
 //! comes from a model of Sycon in another language. Each count is of what was as expected, and of how many.
 
+#![tactic(auto)]
+
 mod damage;
 mod line;
 mod measures;

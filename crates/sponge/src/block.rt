@@ -14,14 +14,14 @@ pub mod stream;
 
 // XORs `x` into byte `place` of the state.
 fn add_byte<E: Engine>(engine: &mut E, place: usize, x: u8)
-    ensures { state engine.new ≡ with_byte place x (state engine.old) }
+    ensures { E.state engine.new ≡ with_byte place x (E.state engine.old) }
 {
     let old = engine.byte(place);
     engine.set_byte(place, old ^ x);
 }
 
 fn add_bytes<E: Engine>(engine: &mut E, bytes: &[u8])
-    ensures { state engine.new ≡ with_bytes 0 bytes.now (state engine.old) }
+    ensures { E.state engine.new ≡ with_bytes 0 bytes.now (E.state engine.old) }
 {
     for (i, x) in bytes.iter().enumerate() {
         add_byte(engine, i, *x);
@@ -36,7 +36,7 @@ fn domain_byte(domain: u8) -> u8
 }
 
 fn add_domain<E: Engine>(engine: &mut E, domain: u8)
-    ensures { state engine.new ≡ with_domain domain (state engine.old) }
+    ensures { E.state engine.new ≡ with_domain domain (E.state engine.old) }
 {
     add_byte(engine, 39, domain_byte(domain));
 }
@@ -44,8 +44,8 @@ fn add_domain<E: Engine>(engine: &mut E, domain: u8)
 /// Absorbs a block of its own: XORs it into the first bytes of the state and the domain into the last three bits, and
 /// permutes. Bytes past the state's 40 go nowhere, and of a domain above 7 the lowest three bits count.
 pub fn absorb<E: Engine>(engine: &mut E, block: &[u8], domain: u8, rounds: usize)
-    ensures { state engine.new
-        ≡ absorbed rounds block.now domain (state engine.old) }
+    ensures { E.state engine.new
+        ≡ absorbed rounds block.now domain (E.state engine.old) }
 {
     add_bytes(engine, block);
     add_domain(engine, domain);
@@ -54,8 +54,8 @@ pub fn absorb<E: Engine>(engine: &mut E, block: &[u8], domain: u8, rounds: usize
 
 // The domain of a block whose bytes are in, and its rounds.
 fn end_block<R: Rate, E: Engine>(engine: &mut E, domain: u8)
-    ensures { state engine.new
-        ≡ permuted setting.rounds (with_domain domain (state engine.old)) }
+    ensures { E.state engine.new
+        ≡ permuted R.setting.rounds (with_domain domain (E.state engine.old)) }
 {
     add_domain(engine, domain);
     engine.turn(R::round_count());

@@ -1,5 +1,7 @@
 //! Sycon's sponge, written once for any engine and any rate: what sealing, opening and digest are made of.
 
+#![tactic(auto)]
+
 mod block;
 pub mod examples;
 mod rate;

@@ -1,6 +1,8 @@
 //! Cases from a model of Sycon, turned ahead and back by both engines and compared; then the edges of an engine's calls, and
 //! the worked examples. A case is a line: the number of rounds, a state, and what the rounds make of it.
 
+#![tactic(auto)]
+
 use agreement::{turned, turned_back};
 use columns::Columns;
 use sliced::Sliced;

@@ -1,5 +1,7 @@
 //! The published vectors, each computed and compared with what was published.
 
+#![tactic(auto)]
+
 use sealing::{Rate64, Rate96, absorb, digest, seal};
 use sliced::Sliced;
 use std::io;

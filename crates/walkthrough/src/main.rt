@@ -1,5 +1,7 @@
 //! One braille text sealed, opened again, and then refused, with each action printed.
 
+#![tactic(auto)]
+
 mod recorder;
 
 use recorder::{Event, Recorder};

@@ -11,8 +11,8 @@ use sycon::engine::{Engine, StateBytes};
 
 /// Writes the digest of `text`, 32 bytes, to `place`.
 pub fn digest<E: Engine>(engine: &mut E, text: &[u8], place: &mut [u8]) -> Result<(), Refusal>
-    ensures { (result, place.new, state engine.new)
-        ≡ digesting text.now place.old (state engine.old) }
+    ensures { (result, place.new, E.state engine.new)
+        ≡ digesting text.now place.old (E.state engine.old) }
 {
     if place.len() != 32 {
         return Err(Refusal::Measure);

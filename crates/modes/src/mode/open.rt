@@ -23,12 +23,12 @@ pub fn open<R: Rate, E: Engine>(
     tag: &[u8],
     text: &mut [u8],
 ) -> Result<(), Refusal>
-    ensures outcome { (result, text.new, state engine.new)
-        ≡ opening setting key.now nonce.now label.now sealed.now
-        tag.now text.old (state engine.old) }
+    ensures outcome { (result, text.new, E.state engine.new)
+        ≡ opening R.setting key.now nonce.now label.now sealed.now
+        tag.now text.old (E.state engine.old) }
     ensures law { measured (length key.now) (length nonce.now) (length tag.now)
         (length sealed.now) (length text.old) ≡ true
-        → Opened setting key.now nonce.now label.now sealed.now
+        → Opened R.setting key.now nonce.now label.now sealed.now
         tag.now result text.new }
 {
     open_exactly::<R, E>(engine, key, nonce, label, sealed, tag, text)
@@ -44,12 +44,12 @@ fn open_exactly<R: Rate, E: Engine>(
     tag: &[u8],
     text: &mut [u8],
 ) -> Result<(), Refusal>
-    ensures outcome { (result, text.new, state engine.new)
-        ≡ opening setting key.now nonce.now label.now sealed.now
-        tag.now text.old (state engine.old) }
+    ensures outcome { (result, text.new, E.state engine.new)
+        ≡ opening R.setting key.now nonce.now label.now sealed.now
+        tag.now text.old (E.state engine.old) }
     ensures law { measured (length key.now) (length nonce.now) (length tag.now)
         (length sealed.now) (length text.old) ≡ true
-        → Opened setting key.now nonce.now label.now sealed.now
+        → Opened R.setting key.now nonce.now label.now sealed.now
         tag.now result text.new }
 {
     open_place::<R, E>(engine, key, nonce, label, sealed, tag, text)
@@ -64,9 +64,9 @@ fn open_place<R: Rate, E: Engine>(
     tag: &[u8],
     text: &mut [u8],
 ) -> Result<(), Refusal>
-    ensures { (result, text.new, state engine.new)
-        ≡ opening setting key.now nonce.now label.now sealed.now
-        tag.now text.old (state engine.old) }
+    ensures { (result, text.new, E.state engine.new)
+        ≡ opening R.setting key.now nonce.now label.now sealed.now
+        tag.now text.old (E.state engine.old) }
 {
     if !super::fits(key, nonce, tag, sealed.len(), text.len()) {
         return Err(Refusal::Measure);
@@ -133,14 +133,14 @@ fn same_bytes(a: &[u8], b: &[u8]) -> bool
 fn open_message<R: Rate, E: Engine>(engine: &mut E, label: &[u8], sealed: &[u8], text: &mut [u8])
     requires { length sealed.now ≤ length text.old }
     ensures text { text.new
-        ≡ opened_in setting sealed.now (labelled setting label.now (state engine.old))
+        ≡ opened_in R.setting sealed.now (labelled R.setting label.now (E.state engine.old))
         ++ drop (length sealed.now) text.old }
     ensures tail { drop (length sealed.now) text.new
         ≡ drop (length sealed.now) text.old }
-    ensures state { state engine.new
-        ≡ messaged setting label.now
-        (opened_in setting sealed.now (labelled setting label.now (state engine.old)))
-        (state engine.old) }
+    ensures state { E.state engine.new
+        ≡ messaged R.setting label.now
+        (opened_in R.setting sealed.now (labelled R.setting label.now (E.state engine.old)))
+        (E.state engine.old) }
 {
     absorb_label::<R, E>(engine, label);
     open_text::<R, E>(engine, sealed, text);
@@ -149,14 +149,14 @@ fn open_message<R: Rate, E: Engine>(engine: &mut E, label: &[u8], sealed: &[u8],
 fn open_text<R: Rate, E: Engine>(engine: &mut E, sealed: &[u8], text: &mut [u8])
     requires { length sealed.now ≤ length text.old }
     ensures text { text.new
-        ≡ opened_in setting sealed.now (state engine.old)
+        ≡ opened_in R.setting sealed.now (E.state engine.old)
         ++ drop (length sealed.now) text.old }
     ensures tail { drop (length sealed.now) text.new
         ≡ drop (length sealed.now) text.old }
-    ensures state { state engine.new
-        ≡ absorbed_all setting.rounds
-        (text_pairs setting.block (opened_in setting sealed.now (state engine.old)))
-        (state engine.old) }
+    ensures state { E.state engine.new
+        ≡ absorbed_all R.setting.rounds
+        (text_pairs R.setting.block (opened_in R.setting sealed.now (E.state engine.old)))
+        (E.state engine.old) }
 {
     let place = open_bytes::<R, E>(engine, sealed, text);
     end::<R, E>(engine, place, 4);
@@ -165,15 +165,15 @@ fn open_text<R: Rate, E: Engine>(engine: &mut E, sealed: &[u8], text: &mut [u8])
 fn open_bytes<R: Rate, E: Engine>(engine: &mut E, sealed: &[u8], text: &mut [u8]) -> usize
     requires { length sealed.now ≤ length text.old }
     ensures text { text.new
-        ≡ opened_from setting 0 sealed.now (state engine.old)
+        ≡ opened_from R.setting 0 sealed.now (E.state engine.old)
         ++ drop (length sealed.now) text.old }
     ensures tail { drop (length sealed.now) text.new
         ≡ drop (length sealed.now) text.old }
     ensures place { result
-        ≡ place_after setting 0 (opened_from setting 0 sealed.now (state engine.old)) }
-    ensures state { state engine.new
-        ≡ state_after setting 2 0 (opened_from setting 0 sealed.now (state engine.old))
-        (state engine.old) }
+        ≡ place_after R.setting 0 (opened_from R.setting 0 sealed.now (E.state engine.old)) }
+    ensures state { E.state engine.new
+        ≡ state_after R.setting 2 0 (opened_from R.setting 0 sealed.now (E.state engine.old))
+        (E.state engine.old) }
 {
     let mut place = 0;
     for (i, y) in sealed.iter().enumerate() {

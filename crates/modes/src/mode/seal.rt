@@ -20,9 +20,9 @@ pub fn seal<R: Rate, E: Engine>(
     sealed: &mut [u8],
     tag: &mut [u8],
 ) -> Result<(), Refusal>
-    ensures { (result, sealed.new, tag.new, state engine.new)
-        ≡ sealing setting key.now nonce.now label.now text.now
-        sealed.old tag.old (state engine.old) }
+    ensures { (result, sealed.new, tag.new, E.state engine.new)
+        ≡ sealing R.setting key.now nonce.now label.now text.now
+        sealed.old tag.old (E.state engine.old) }
 {
     if !super::fits(key, nonce, tag, text.len(), sealed.len()) {
         return Err(Refusal::Measure);
@@ -39,10 +39,10 @@ pub fn seal<R: Rate, E: Engine>(
 fn seal_message<R: Rate, E: Engine>(engine: &mut E, label: &[u8], text: &[u8], sealed: &mut [u8])
     requires { length text.now ≤ length sealed.old }
     ensures sealed { sealed.new
-        ≡ sealed_in setting text.now (labelled setting label.now (state engine.old))
+        ≡ sealed_in R.setting text.now (labelled R.setting label.now (E.state engine.old))
         ++ drop (length text.now) sealed.old }
-    ensures state { state engine.new
-        ≡ messaged setting label.now text.now (state engine.old) }
+    ensures state { E.state engine.new
+        ≡ messaged R.setting label.now text.now (E.state engine.old) }
 {
     absorb_label::<R, E>(engine, label);
     seal_text::<R, E>(engine, text, sealed);
@@ -51,10 +51,10 @@ fn seal_message<R: Rate, E: Engine>(engine: &mut E, label: &[u8], text: &[u8], s
 fn seal_text<R: Rate, E: Engine>(engine: &mut E, text: &[u8], sealed: &mut [u8])
     requires { length text.now ≤ length sealed.old }
     ensures sealed { sealed.new
-        ≡ sealed_in setting text.now (state engine.old)
+        ≡ sealed_in R.setting text.now (E.state engine.old)
         ++ drop (length text.now) sealed.old }
-    ensures state { state engine.new
-        ≡ absorbed_all setting.rounds (text_pairs setting.block text.now) (state engine.old) }
+    ensures state { E.state engine.new
+        ≡ absorbed_all R.setting.rounds (text_pairs R.setting.block text.now) (E.state engine.old) }
 {
     let place = seal_bytes::<R, E>(engine, text, sealed);
     end::<R, E>(engine, place, 4);
@@ -63,11 +63,11 @@ fn seal_text<R: Rate, E: Engine>(engine: &mut E, text: &[u8], sealed: &mut [u8])
 fn seal_bytes<R: Rate, E: Engine>(engine: &mut E, text: &[u8], sealed: &mut [u8]) -> usize
     requires { length text.now ≤ length sealed.old }
     ensures sealed { sealed.new
-        ≡ sealed_from setting 0 text.now (state engine.old)
+        ≡ sealed_from R.setting 0 text.now (E.state engine.old)
         ++ drop (length text.now) sealed.old }
-    ensures place { result ≡ place_after setting 0 text.now }
-    ensures state { state engine.new
-        ≡ state_after setting 2 0 text.now (state engine.old) }
+    ensures place { result ≡ place_after R.setting 0 text.now }
+    ensures state { E.state engine.new
+        ≡ state_after R.setting 2 0 text.now (E.state engine.old) }
 {
     let mut place = 0;
     for (i, x) in text.iter().enumerate() {

@@ -11,8 +11,8 @@ use sycon::engine::Engine;
 
 /// Writes the digest of `text`, 32 bytes, to `place`.
 pub fn digest<E: Engine>(engine: &mut E, text: &[u8], place: &mut [u8]) -> Result<(), Refusal>
-    ensures { (result, place.new, state engine.new)
-        ≡ digesting text.now place.old (state engine.old) }
+    ensures { (result, place.new, E.state engine.new)
+        ≡ digesting text.now place.old (E.state engine.old) }
 {
     if place.len() != 32 {
         return Err(Refusal::Measure);
@@ -65,7 +65,7 @@ fn start_bytes() -> [u8; 40]
 // Four times the first 8 bytes, with 14 rounds between.
 fn squeeze<E: Engine>(engine: &mut E, place: &mut [u8])
     requires { length place.old ≡ 32 }
-    ensures { place.new ≡ squeezed 4 (state engine.old) }
+    ensures { place.new ≡ squeezed 4 (E.state engine.old) }
 {
     super::put(place, 0, &super::read_bytes::<8, E>(engine, 0));
     for i in 1..4 {

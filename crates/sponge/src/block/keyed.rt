@@ -10,7 +10,7 @@ use sycon::engine::{Engine, StateBytes};
 
 /// Begins under a key and a nonce: these and the initial vector are loaded, and the key blocks absorbed.
 pub fn start<R: Rate, E: Engine>(engine: &mut E, key: &[u8; 16], nonce: &[u8; 16])
-    ensures { state engine.new ≡ started setting key.now nonce.now }
+    ensures { E.state engine.new ≡ started R.setting key.now nonce.now }
 {
     let vector = R::vector();
     engine.load(&start_bytes(key, nonce, &vector));
@@ -20,7 +20,7 @@ pub fn start<R: Rate, E: Engine>(engine: &mut E, key: &[u8; 16], nonce: &[u8; 16
 
 /// Absorbs a label. An empty one has no block.
 pub fn absorb_label<R: Rate, E: Engine>(engine: &mut E, label: &[u8])
-    ensures { state engine.new ≡ labelled setting label.now (state engine.old) }
+    ensures { E.state engine.new ≡ labelled R.setting label.now (E.state engine.old) }
 {
     if !label.is_empty() {
         absorb_message::<R, E>(engine, label, 1, 2);
@@ -29,8 +29,8 @@ pub fn absorb_label<R: Rate, E: Engine>(engine: &mut E, label: &[u8])
 
 /// Ends under the key and gives the seal. The engine holds zeros then, so that no key is left in it.
 pub fn finish<R: Rate, E: Engine>(engine: &mut E, key: &[u8; 16]) -> [u8; 16]
-    ensures tag { result ≡ seal_in setting key.now (state engine.old) }
-    ensures clear { state engine.new ≡ replicate 40 0 }
+    ensures tag { result ≡ seal_in R.setting key.now (E.state engine.old) }
+    ensures clear { E.state engine.new ≡ replicate 40 0 }
 {
     absorb_key::<R, E>(engine, key, 4, 4);
     let tag = middle(&engine::bytes(engine));
@@ -40,8 +40,8 @@ pub fn finish<R: Rate, E: Engine>(engine: &mut E, key: &[u8; 16]) -> [u8; 16]
 
 // Both key blocks. Two blocks of 8 bytes end where the key does, and so before the padding.
 fn absorb_key<R: Rate, E: Engine>(engine: &mut E, key: &[u8; 16], first: u8, second: u8)
-    ensures { state engine.new
-        ≡ under_key setting first second key.now (state engine.old) }
+    ensures { E.state engine.new
+        ≡ under_key R.setting first second key.now (E.state engine.old) }
 {
     let padded = padded_key(key);
     let block = R::block_len();

@@ -12,7 +12,7 @@ loop-c-preserved c =
     let f = arranged (column_bits c.args.columns.now) in
     let room : c.loop-c.c < length c.loop-c.moved = omega (arith, c.loop-c.invariant.0) in (
       length-set _ _ _ ∙ c.loop-c.invariant.0,
-      rw c.arranged-column.ensures (fill_by_more (column f) c.loop-c.moved c.loop-c.c 0 room c.loop-c.invariant.1),
+      rw c.arranged_column.ensures (fill_by_more (column f) c.loop-c.moved c.loop-c.c 0 room c.loop-c.invariant.1),
     )
 
 pub returns : goal.returns

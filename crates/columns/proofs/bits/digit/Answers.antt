@@ -3,9 +3,6 @@ use lib.Bits.{bit_and, and_mask}
 use Rattle.sycon.specs.Permutation.{bit}
 use Rattle.columns.proofs.bits.digit.Goals as goal
 
-pub overflow-cast-result : goal.overflow-cast-result
-overflow-cast-result c = omega (arith, and_mask (c.args.x / 2 ^ c.args.k) 1)
-
 pub returns : goal.returns
 unfolding bit
 returns c =

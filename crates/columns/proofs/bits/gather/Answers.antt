@@ -14,7 +14,7 @@ loop-c-preserved c =
     let ws = rows c.args.words.now in
     let room : c.loop-c.c < length c.loop-c.columns = omega (arith, c.loop-c.invariant.0) in (
       length-set _ _ _ ∙ c.loop-c.invariant.0,
-      rw c.column-of.ensures (fill_by_more (column (word_bits ws)) c.loop-c.columns c.loop-c.c 0 room c.loop-c.invariant.1),
+      rw c.column_of.ensures (fill_by_more (column (word_bits ws)) c.loop-c.columns c.loop-c.c 0 room c.loop-c.invariant.1),
     )
 
 pub returns : goal.returns

@@ -9,4 +9,4 @@ unfolding holding
 returns c =
     let f = column_bits c.args.columns.now in
     pack_same _ f
-    (by_row _ f c.row-of.ensures c.row-of-2.ensures c.row-of-3.ensures c.row-of-4.ensures c.row-of-5.ensures)
+    (by_row _ f c.row_of.ensures c.row_of-2.ensures c.row_of-3.ensures c.row_of-4.ensures c.row_of-5.ensures)

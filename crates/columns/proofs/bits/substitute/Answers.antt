@@ -5,5 +5,5 @@ use Rattle.columns.proofs.bits.substitute.Goals as goal
 pub returns : goal.returns
 returns c =
     let cs = c.args.columns.now in
-    looked_up cs c.look-up.result
-    (λ i h. c.look-up.ensures i h ∙ ap (λ t. get_or t (get_or cs i 0 % 32) 0) c.sbox-table.ensures)
+    looked_up cs c.look_up.result
+    (λ i h. c.look_up.ensures i h ∙ ap (λ t. get_or t (get_or cs i 0 % 32) 0) c.sbox_table.ensures)

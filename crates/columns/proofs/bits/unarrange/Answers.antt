@@ -9,12 +9,12 @@ use Rattle.columns.proofs.bits.unarrange.Goals as goal
 pub loop-n-preserved : goal.loop-n-preserved
 loop-n-preserved c =
     let n = c.loop-n.n in
-    let next = c.put-bit.new.columns in
-    let at = c.origin-of.ensures.at in (
+    let next = c.put_bit.new.columns in
+    let at = c.origin_of.ensures.at in (
       search rules,
       put_back_more c.args.columns.now c.loop-n.moved next n (omega arith) c.loop-n.invariant.1
-          (ap (column_bits next (n % 5)) (sym at) ∙ c.put-bit.ensures.here ∙ c.digit.ensures.value)
-          (λ j d hj o. c.put-bit.ensures.there j d hj (λ e f. o (e ∙ at) f)),
+          (ap (column_bits next (n % 5)) (sym at) ∙ c.put_bit.ensures.here ∙ c.digit.ensures.value)
+          (λ j d hj o. c.put_bit.ensures.there j d hj (λ e f. o (e ∙ at) f)),
     )
 
 pub returns : goal.returns

@@ -16,11 +16,11 @@ loop-k-preserved c k h =
     let i = c.loop-k.k-index in
     let terms = c.args.terms.now in
     let mask = (get_or terms i (0, 0)).1 in
-    bit-xor c.loop-k.r (bit_and c.rotate-right.result mask) k
+    bit-xor c.loop-k.r (bit_and c.rotate_right.result mask) k
     ∙ ap₂ bit_xor (c.loop-k.invariant k h)
-    (bit-and c.rotate-right.result mask k
+    (bit-and c.rotate_right.result mask k
     ∙ ap (λ d. bit_and d (bit mask k))
-    (ap (λ n. bit n k) c.rotate-right.ensures
+    (ap (λ n. bit n k) c.rotate_right.ensures
     ∙ bit-rotate c.args.x (get_or terms i (0, 0)).0 k c.ranges.x.fits h))
     ∙ sym (gathered_more (bit c.args.x) k terms i c.loop-k-test.true)
 

@@ -10,7 +10,7 @@ pub loop-i-preserved : goal.loop-i-preserved
 loop-i-preserved g c s e =
     let i = c.loop-i.i - 1 in
     let one_more : c.loop-i.i ≡ i + 1 = omega arith in
-    c.loop-i.invariant s (ap (λ n. rounds n s) one_more ∙ round_less i _ s _ _ c.constant.ensures e c.round-back.ensures)
+    c.loop-i.invariant s (ap (λ n. rounds n s) one_more ∙ round_less i _ s _ _ c.constant.ensures e c.round_back.ensures)
 
 pub returns : goal.returns
 unfolding permuted rounds

@@ -9,4 +9,4 @@ returns g c =
     let label = c.args.label.now in
     let text = opened_in t c.args.sealed.now (labelled t label s) in
     let e = absorbed-append t.rounds (label_pairs t.block label) (text_pairs t.block text) s in
-    record { text = cc; tail = c.open-text.ensures.tail; state = cc }
+    record { text = cc; tail = c.open_text.ensures.tail; state = cc }

@@ -13,4 +13,4 @@ returns g c =
     let s = g.E.Engine.state c.args.engine.now in
     let e = message_blocks t 2 4 pos (opened_from t 0 ys s) s in
     let f = opened_stream t pos small ys s (g.met.E.Engine.whole c.args.engine.now).whole in
-    record { text = cc; tail = c.open-bytes-place.ensures.tail; state = cc }
+    record { text = cc; tail = c.open_bytes-place.ensures.tail; state = cc }

@@ -4,7 +4,7 @@ use Rattle.sponge.proofs.block.keyed.absorb_key.Goals as goal
 
 pub returns : goal.returns
 returns g c =
-    let b = c.block-len-block.result in
+    let b = c.block_len-block.result in
     let key = c.args.key.now in
     let l : length key ≡ 16 = search rules in
     let low : 8 ≤ b = omega (arith, g.met.R.Rate.low) in

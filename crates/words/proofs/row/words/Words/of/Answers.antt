@@ -5,6 +5,6 @@ use Rattle.words.proofs.row.words.Words.of.Goals as goal
 
 pub returns : goal.returns
 returns c =
-    held-loaded c.by-rows.result c.args.bytes.now
+    held-loaded c.by_rows.result c.args.bytes.now
     (record { whole = c.told-bytes; bytes = All-from_get_or (λ b. b < 256) c.args.bytes.now 0 (λ i h. c.fits-bytes i) })
-    c.by-rows.ensures
+    c.by_rows.ensures

@@ -6,7 +6,7 @@ use Rattle.words.proofs.row.words.Words.write.Goals as goal
 
 pub returns : goal.returns
 returns c =
-    ap held c.set-word.ensures
-    ∙ held-set (rows c.args.self.now) refl c.args.k c.args.b c.with-byte.result c.ranges.b.fits
-    c.with-byte.ensures.here
-    (λ m h o. c.with-byte.ensures.there m h o ∙ ap (λ x. bit x m) c.word.ensures)
+    ap held c.set_word.ensures
+    ∙ held-set (rows c.args.self.now) refl c.args.k c.args.b c.with_byte.result c.ranges.b.fits
+    c.with_byte.ensures.here
+    (λ m h o. c.with_byte.ensures.there m h o ∙ ap (λ x. bit x m) c.word.ensures)

@@ -20,28 +20,28 @@ use sycon::engine::{Engine, TwoWay};
 pub extern "C" fn sliced_turn(engine: &mut Sliced, r: usize)
     ensures { sliced_state engine.new ≡ permuted r (sliced_state engine.old) }
 {
-    <Sliced as sycon::engine::Engine>::turn(engine, r);
+    <Sliced as Engine>::turn(engine, r);
 }
 
 #[unsafe(no_mangle)]
 pub extern "C" fn sliced_turn_back(engine: &mut Sliced, r: usize)
     ensures { permuted r (sliced_state engine.new) ≡ sliced_state engine.old }
 {
-    <Sliced as sycon::engine::TwoWay>::turn_back(engine, r);
+    <Sliced as TwoWay>::turn_back(engine, r);
 }
 
 #[unsafe(no_mangle)]
 pub extern "C" fn columns_turn(engine: &mut Columns, r: usize)
     ensures { columns_state engine.new ≡ permuted r (columns_state engine.old) }
 {
-    <Columns as sycon::engine::Engine>::turn(engine, r);
+    <Columns as Engine>::turn(engine, r);
 }
 
 #[unsafe(no_mangle)]
 pub extern "C" fn columns_turn_back(engine: &mut Columns, r: usize)
     ensures { permuted r (columns_state engine.new) ≡ columns_state engine.old }
 {
-    <Columns as sycon::engine::TwoWay>::turn_back(engine, r);
+    <Columns as TwoWay>::turn_back(engine, r);
 }
 
 /// Seals at 64 bits. Gives 0, or the number of the refusal.

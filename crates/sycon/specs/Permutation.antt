@@ -2,12 +2,12 @@
 -- A state is 40 bytes. Its bits s0 to s319 stand in five words of 64: s(64j + c) is column c of word j, and byte k
 -- holds s(8k) to s(8k + 7), the first of them as its lowest bit. docs/sycon.md says the same in prose.
 use Rattle.std.specs.Prelude.{◌≡◌, ℕ, zero, suc, ◌+◌, ◌*◌, ◌/◌, ◌%◌, ◌^◌, ◌<◌, min, List, [], ◌∷◌, map, length, bit_xor, slice_index, slice_index_or}
-use Rattle.std.specs.List.{range_with_len, AllByRecursion as All}
+use Rattle.std.specs.List.{range_with_len, AllByRecursion}
 
 -- what a state is
 pub record State (s : List ℕ) : Type 0 where
   pub whole : length s ≡ 40
-  pub bytes : All (λ b. b < 256) s
+  pub bytes : AllByRecursion (λ b. b < 256) s
 
 -- bit k of a number, the lowest being bit 0
 unfoldable pub bit : ℕ → ℕ → ℕ

@@ -3,7 +3,8 @@ use Rattle.std.proofs.lemmas.List.Edits.{fill_by_more}
 use Rattle.sycon.specs.Permutation.{column, origin, arranged}
 use Rattle.sycon.proofs.Steps.{respects-arranged}
 use Rattle.columns.specs.Columns.{column_bits}
-use Rattle.columns.specs.Held.{digits, held_step, columns_same}
+use Rattle.columns.specs.Held.{digits}
+use Rattle.columns.proofs.Held.{held_step, columns_same}
 use Rattle.columns.proofs.bits.arrange.Goals as goal
 
 pub loop-c-preserved : goal.loop-c-preserved

@@ -5,7 +5,7 @@ use Rattle.sycon.proofs.Packing.{pack_same}
 use Rattle.words.specs.Words.{rows, word_bits}
 use Rattle.words.proofs.Held.{digits}
 use Rattle.sycon.specs.Steps.{holding}
-use Rattle.columns.specs.Held.{columns_same}
+use Rattle.columns.proofs.Held.{columns_same}
 use Rattle.columns.proofs.bits.gather.Goals as goal
 
 pub loop-c-preserved : goal.loop-c-preserved

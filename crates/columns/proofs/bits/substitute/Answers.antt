@@ -1,5 +1,5 @@
 use Rattle.std.proofs.Common.{◌%◌, get_or, ap, ◌∙◌}
-use Rattle.columns.specs.Held.{looked_up}
+use Rattle.columns.proofs.Held.{looked_up}
 use Rattle.columns.proofs.bits.substitute.Goals as goal
 
 pub returns : goal.returns

@@ -2,7 +2,7 @@ use Rattle.std.proofs.Common.{◌%◌, sym, ap, ◌∙◌, arith, rules}
 use Rattle.sycon.specs.Permutation.{arranged}
 use Rattle.sycon.proofs.Steps.{respects-arranged}
 use Rattle.columns.specs.Columns.{column_bits}
-use Rattle.columns.specs.Held.{held_step_back}
+use Rattle.columns.proofs.Held.{held_step_back}
 use Rattle.columns.proofs.Moving.{put_back_more, put_back-all}
 use Rattle.columns.proofs.bits.unarrange.Goals as goal
 

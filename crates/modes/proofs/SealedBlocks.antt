@@ -1,5 +1,5 @@
 -- The sealed bytes are those that the definition by blocks reads off.
-use Rattle.std.proofs.Common.{◌≡◌, ℕ, zero, suc, ◌+◌, ◌-◌, ◌*◌, ◌/◌, ◌%◌, ◌<◌, ◌≤◌, true, false, cond, ltb, ◌≢◌, List, [], ◌∷◌, ◌++◌, length, get_or, take, drop, set, replicate, sym, refl, ap, ◌∙◌, ap₂, suc-add, zero-add, arith, length-set}
+use Rattle.std.proofs.Common.{◌≡◌, ℕ, zero, suc, ◌+◌, ◌-◌, ◌*◌, ◌/◌, ◌%◌, ◌<◌, ◌≤◌, true, false, cond, ltb, ◌≢◌, List, [], ◌∷◌, ◌++◌, length, get_or, take, drop, replicate, sym, refl, ap, ◌∙◌, ap₂, suc-add, zero-add, arith, length-set}
 use lib.Bits.{bit_xor}
 use Rattle.std.proofs.lemmas.Nat.{div-add-mod', mod_below}
 use Rattle.std.proofs.lemmas.List.{get_or-set_same, get_or-set_other, drop_more, take-set-le, take-take, take_all, append-nil, take-append-drop, take-append-le, drop-append-le, length-append, length-drop, length-replicate, length-take-le}
@@ -8,7 +8,7 @@ use Rattle.sycon.specs.Permutation.{permuted}
 use Rattle.sponge.specs.Blocks.{absorbed, cut, marked, padded, read_off, with_byte, with_bytes, with_domain}
 use Rattle.sponge.specs.Rates.{Setting}
 use Rattle.sponge.specs.Modes.{sealed_in}
-use Rattle.sponge.specs.Stream.{next, fed, sealed_from}
+use Rattle.sponge.specs.Stream.{sealed_from}
 use Rattle.sponge.proofs.Blocks.{zero-mul-add, suc-mul-add, with_bytes-append}
 use Rattle.sponge.proofs.Folds.{length-absorbed, length-with}
 

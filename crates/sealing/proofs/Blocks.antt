@@ -1,13 +1,13 @@
 -- The stream is the definition by blocks.
-use Rattle.std.proofs.Common.{◌≡◌, ℕ, zero, suc, ◌+◌, ◌-◌, ◌*◌, ◌/◌, ◌%◌, ◌<◌, ◌≤◌, true, false, cond, eqb, List, [], ◌∷◌, ◌++◌, length, get_or, take, drop, set, replicate, sym, refl, ap, ◌∙◌, ap₂, ⊎_elim, add_assoc, suc-mul, add_comm, zero-add, zero-mul, arith}
-use lib.Bits.{bit_xor, xor_zero_r}
+use Rattle.std.proofs.Common.{◌≡◌, ℕ, zero, suc, ◌+◌, ◌-◌, ◌*◌, ◌/◌, ◌%◌, ◌<◌, ◌≤◌, true, false, cond, eqb, List, [], ◌∷◌, ◌++◌, length, get_or, take, drop, set, replicate, sym, refl, ap, ◌∙◌, ap₂, suc-mul, zero-add, zero-mul, arith}
+use lib.Bits.{xor_zero_r}
 use Rattle.std.proofs.lemmas.Nat.{div-add-mod', mod_below}
 use Rattle.std.proofs.lemmas.List.{set-get_or, take_all, take-append-drop, take-append-le, drop-append-le, length-append, length-drop, length-replicate, length-take-le}
 use Rattle.std.proofs.lemmas.Bool.{eq-eqb, ne_eqb}
 use Rattle.sycon.specs.Permutation.{permuted}
 use Rattle.sealing.specs.Blocks.{absorbed_all, blocks, cut, marked, padded}
 use Rattle.sealing.specs.Rates.{Setting}
-use Rattle.sealing.specs.Sponge.{with_byte, with_bytes, with_domain, absorbed, next, fed, place_after, state_after, ended, message}
+use Rattle.sealing.specs.Sponge.{with_byte, with_bytes, with_domain, absorbed, place_after, state_after, ended, message}
 
 pub zero-mul-add : (b r : ℕ) → zero * b + r ≡ r
 zero-mul-add b r = ap (λ x. x + r) (zero-mul b) ∙ zero-add r

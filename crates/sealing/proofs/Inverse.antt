@@ -1,5 +1,5 @@
 -- Sealing and opening undo each other, and what follows for the answer of opening.
-use Rattle.std.proofs.Common.{◌≡◌, ℕ, suc, ◌+◌, ◌≤◌, Bool, true, false, cond, List, [], ◌∷◌, ◌++◌, length, get_or, take, drop, replicate, Ok, Err, Decides, sym, refl, ap, ◌∙◌, ap₂, ⊎_elim, arith}
+use Rattle.std.proofs.Common.{◌≡◌, ℕ, suc, Bool, true, false, cond, List, [], ◌∷◌, ◌++◌, length, get_or, take, drop, replicate, Ok, Err, Decides, sym, refl, ap, ◌∙◌, ap₂, arith}
 use lib.Bits.{bit_xor, xor_assoc, xor_self}
 use Rattle.std.proofs.lemmas.List.{take_at}
 use Rattle.std.proofs.lemmas.Slice.Eq.{bytes_eq-Decides}
@@ -10,7 +10,7 @@ use Rattle.refusal.specs.declared.Refusal.TheVariants.{Measure, BrokenSeal}
 use Rattle.sealing.specs.Rates.{Setting}
 use Rattle.sealing.specs.Calls.{Answer, opening, measured}
 use Rattle.sealing.specs.Laws.{Seals, Opened}
-use Rattle.sealing.specs.Sealing.{sealed_from, opened_from, sealed_bytes, opened_bytes, seal_of, ready}
+use Rattle.sealing.specs.Sealing.{sealed_from, opened_from, opened_bytes, seal_of, ready}
 use Rattle.sealing.specs.Sponge.{next, fed}
 
 xor_again : (a b : ℕ) → bit_xor a (bit_xor a b) ≡ b

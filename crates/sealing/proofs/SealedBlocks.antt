@@ -1,5 +1,5 @@
 -- The sealed bytes are those that the definition by blocks reads off.
-use Rattle.std.proofs.Common.{◌≡◌, ℕ, zero, suc, ◌+◌, ◌-◌, ◌*◌, ◌/◌, ◌%◌, ◌<◌, ◌≤◌, true, false, cond, eqb, ◌≢◌, List, [], ◌∷◌, ◌++◌, length, get_or, take, drop, set, replicate, sym, refl, ap, ◌∙◌, ap₂, suc-add, zero-add, arith, length-set}
+use Rattle.std.proofs.Common.{◌≡◌, ℕ, zero, suc, ◌+◌, ◌-◌, ◌*◌, ◌/◌, ◌%◌, ◌<◌, ◌≤◌, true, false, cond, eqb, ◌≢◌, List, [], ◌∷◌, ◌++◌, length, get_or, take, drop, replicate, sym, refl, ap, ◌∙◌, ap₂, suc-add, zero-add, arith, length-set}
 use lib.Bits.{bit_xor}
 use Rattle.std.proofs.lemmas.Nat.{div-add-mod', mod_below}
 use Rattle.std.proofs.lemmas.List.{get_or-set_same, get_or-set_other, drop_more, take-set-le, take-take, take_all, append-nil, take-append-drop, take-append-le, drop-append-le, length-append, length-drop, length-replicate, length-take-le}
@@ -9,7 +9,7 @@ use Rattle.sycon.proofs.Lengths.{length-permuted}
 use Rattle.sealing.specs.Blocks.{read_off, text_pairs, cut, marked, padded}
 use Rattle.sealing.specs.Rates.{Setting}
 use Rattle.sealing.specs.Sealing.{sealed_from}
-use Rattle.sealing.specs.Sponge.{with_byte, with_bytes, with_domain, domain_byte_of, absorbed, next, fed}
+use Rattle.sealing.specs.Sponge.{with_byte, with_bytes, with_domain, domain_byte_of, absorbed}
 use Rattle.sealing.proofs.Blocks.{zero-mul-add, suc-mul-add, with_bytes-append}
 
 length-with : (p : ℕ) (xs s : List ℕ) → length (with_bytes p xs s) ≡ length s

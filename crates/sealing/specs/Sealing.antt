@@ -1,5 +1,5 @@
 -- Sealing, opening and digest by the sponge.
-use Rattle.std.specs.Prelude.{ℕ, zero, suc, Bool, true, false, cond, ◌&&◌, List, [], ◌∷◌, ◌++◌, length, take, drop, replicate, bit_xor, slice_index}
+use Rattle.std.specs.Prelude.{ℕ, zero, suc, List, [], ◌∷◌, ◌++◌, take, drop, replicate, bit_xor, slice_index}
 use Rattle.sycon.specs.Permutation.{permuted}
 use Rattle.sealing.specs.Rates.{Setting}
 use Rattle.sealing.specs.Sponge.{absorbed, next, fed, message}

@@ -1,5 +1,5 @@
 -- The rule of the whole table, carried to an entry.
-use Rattle.std.proofs.Common.{◌≡◌, ◌+◌, ◌*◌, ◌%◌, ◌<◌, get_or, ap, ◌∙◌, mod-lt, arith, lit<}
+use Rattle.std.proofs.Common.{◌+◌, ◌*◌, ◌%◌, ◌<◌, get_or, ap, ◌∙◌, mod-lt, arith, lit<}
 use Rattle.std.proofs.lemmas.List.FromFn.{get_or-map-range_with_len}
 use Rattle.sycon.specs.Steps.{pl2, pl2_rule}
 use Rattle.columns.proofs.Moving.{pl2_at}

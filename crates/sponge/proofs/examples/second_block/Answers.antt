@@ -1,4 +1,4 @@
-use Rattle.std.proofs.Common.{◌≡◌, ◌≤◌, length, drop, ◌∙◌, arith, rules}
+use Rattle.std.proofs.Common.{◌≡◌, length, drop, arith, rules}
 use Rattle.std.proofs.lemmas.List.{length-drop, take_all}
 use Rattle.sponge.proofs.examples.second_block.Goals as goal
 

@@ -1,6 +1,6 @@
 use Rattle.std.proofs.Common.{◌≡◌, ◌+◌, ◌<◌, ◌++◌, length, get_or, take, drop, sym, ap, ◌∙◌, arith}
 use lib.Bits.{bit_xor}
-use Rattle.sponge.specs.Stream.{opened_from, place_after, state_after}
+use Rattle.sponge.specs.Stream.{opened_from}
 use Rattle.sponge.proofs.Parts.{written_more, tail_more, written_all}
 use Rattle.sponge.proofs.Stream.{opened_more, opened_place_more, opened_state_more, opened_all, opened_place_all, opened_state_all}
 use Rattle.modes.proofs.mode.open.open_bytes.Goals as goal

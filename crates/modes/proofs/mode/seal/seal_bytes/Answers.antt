@@ -1,4 +1,4 @@
-use Rattle.std.proofs.Common.{◌≡◌, ◌+◌, ◌<◌, ◌∷◌, ◌++◌, length, get_or, take, drop, sym, ap, ◌∙◌, arith}
+use Rattle.std.proofs.Common.{◌+◌, ◌<◌, ◌∷◌, ◌++◌, length, get_or, take, drop, sym, ap, ◌∙◌, arith}
 use lib.Bits.{bit_xor}
 use Rattle.sponge.specs.Stream.{sealed_from}
 use Rattle.sponge.proofs.Parts.{written_more, tail_more, written_all}

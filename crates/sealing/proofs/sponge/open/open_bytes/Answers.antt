@@ -1,7 +1,6 @@
 use Rattle.std.proofs.Common.{◌≡◌, ◌+◌, ◌<◌, ◌++◌, length, get_or, take, drop, sym, ap, ◌∙◌, arith}
 use lib.Bits.{bit_xor}
 use Rattle.sealing.specs.Sealing.{opened_from}
-use Rattle.sealing.specs.Sponge.{place_after, state_after}
 use Rattle.sealing.proofs.Parts.{written_more, tail_more, written_all}
 use Rattle.sealing.proofs.Stream.{opened_more, opened_place_more, opened_state_more, opened_all, opened_place_all, opened_state_all}
 use Rattle.sealing.proofs.sponge.open.open_bytes.Goals as goal

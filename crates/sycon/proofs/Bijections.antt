@@ -1,4 +1,4 @@
--- Each step of a round is one_to_one and onto, and so is the permutation.
+-- Each step of a round is one-to-one and onto, and so is the permutation.
 use Rattle.std.proofs.Common.{◌≡◌, ℕ, zero, suc, ◌+◌, ◌-◌, ◌*◌, ◌/◌, ◌%◌, ◌<◌, min, cond, T, eqb, ltb, List, [], ◌∷◌, get_or, sym, refl, ap, ◌∙◌, subst, mod-eq_of_lt, eqb→eq, ltb→lt}
 use mathlib.Core.Path.{fun_ext}
 use lib.Bits.{bit_xor, xor_assoc, xor_self, xor_zero_r}

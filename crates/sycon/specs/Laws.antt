@@ -1,4 +1,4 @@
--- A map of states that is one_to_one, and one that is onto.
+-- A map of states that is one-to-one, and one that is onto.
 use Rattle.std.specs.Prelude.{◌≡◌, ℕ, List}
 use Rattle.sycon.specs.Permutation.{State}
 

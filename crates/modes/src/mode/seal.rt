@@ -4,7 +4,7 @@ ghost use Rattle.std.specs.Prelude.{◌≡◌, ◌<◌, ◌≤◌, ◌++◌, len
 ghost use Rattle.sponge.specs.Blocks.{absorbed_all};
 ghost use Rattle.modes.specs.Calls.{sealing};
 ghost use Rattle.sponge.specs.Modes.{labelled, messaged, sealed_in, text_pairs};
-ghost use Rattle.sponge.specs.Stream.{place_after, sealed_from, state_after};
+ghost use Rattle.sponge.specs.Stream.{message, place_after, sealed_from, state_after};
 
 use refusal::Refusal;
 use sponge::{Rate, absorb_label, end, feed, finish, start};
@@ -55,6 +55,18 @@ fn seal_text<R: Rate, E: Engine>(engine: &mut E, text: &[u8], sealed: &mut [u8])
         ++ drop (length text.now) sealed.old }
     ensures state { E.state engine.new
         ≡ absorbed_all R.setting.rounds (text_pairs R.setting.block text.now) (E.state engine.old) }
+{
+    seal_stream::<R, E>(engine, text, sealed);
+}
+
+// The same as the bytes went by.
+fn seal_stream<R: Rate, E: Engine>(engine: &mut E, text: &[u8], sealed: &mut [u8])
+    requires { length text.now ≤ length sealed.old }
+    ensures sealed { sealed.new
+        ≡ sealed_from R.setting 0 text.now (E.state engine.old)
+        ++ drop (length text.now) sealed.old }
+    ensures state { E.state engine.new
+        ≡ message R.setting 2 4 text.now (E.state engine.old) }
 {
     let place = seal_bytes::<R, E>(engine, text, sealed);
     end::<R, E>(engine, place, 4);

@@ -1,7 +1,9 @@
 pub mod Bijections
+pub mod Constants
 pub mod Digits
 pub mod Fields
 pub mod Lengths
+pub mod Made
 pub mod Packing
 pub mod Spreading
 pub mod Steps

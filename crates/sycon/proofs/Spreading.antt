@@ -33,7 +33,7 @@ spread_twice p d a b =
     (d c) (d ((c + a) % 64)) (d ((c + b) % 64)) (d ((c + 2 * a) % 64)) (d (((c + a) % 64 + b) % 64)) (d ((c + 2 * b) % 64))))
 
 -- spread by 64 times anything, a row is itself
-spread_whole : (p : ℕ → ℕ) (a b c : ℕ) → c < 64 → spread p (64 * a) (64 * b) c ≡ p c
+pub spread_whole : (p : ℕ → ℕ) (a b c : ℕ) → c < 64 → spread p (64 * a) (64 * b) c ≡ p c
 spread_whole p a b c h =
     let ea : (c + 64 * a) % 64 ≡ c = omega arith in
     let eb : (c + 64 * b) % 64 ≡ c = omega arith in
@@ -90,11 +90,7 @@ module _ (a b : ℕ) where
   pub spread_down : (p : ℕ → ℕ) → ((c : ℕ) → p c < 2) → (c : ℕ) → c < 64 → spread (down 6 1 p) a b c ≡ p c
   spread_down p d c h = ap (λ q. q c) (once (down 6 1 p) ∙ by_down 6 1 p d) ∙ spread_whole p a b c h
 
-  -- a row that is spread on as `down` does, and one whose spreading is p
-  pub down_next : (n m : ℕ) (p q r : ℕ → ℕ) → ((c : ℕ) → c < 64 → q c ≡ down n (2 * m) p c)
-      → ((c : ℕ) → c < 64 → r c ≡ spread q (m * a) (m * b) c) → (c : ℕ) → c < 64 → r c ≡ down (suc n) m p c
-  down_next n m p q r eq er c h = er c h ∙ spread_same q (down n (2 * m) p) eq (m * a) (m * b) c h
-
-  pub spread_back : (p r : ℕ → ℕ) → ((c : ℕ) → p c < 2) → ((c : ℕ) → c < 64 → r c ≡ down 6 1 p c)
-      → (c : ℕ) → c < 64 → spread r a b c ≡ p c
-  spread_back p r d e c h = spread_same r (down 6 1 p) e a b c h ∙ spread_down p d c h
+  -- where p spread by twice m is o, p spread by m and once more is
+  pub halved : (m : ℕ) (o p q : ℕ → ℕ) → ((c : ℕ) → p c < 2) → ((c : ℕ) → c < 64 → q c ≡ spread p (m * a) (m * b) c)
+      → ((c : ℕ) → c < 64 → spread p (2 * m * a) (2 * m * b) c ≡ o c) → (c : ℕ) → c < 64 → spread q (m * a) (m * b) c ≡ o c
+  halved m o p q d e twice c h = spread_same q (by m p) e (m * a) (m * b) c h ∙ ap (λ r. r c) (by_twice p d m) ∙ twice c h

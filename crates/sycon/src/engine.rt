@@ -3,6 +3,8 @@
 ghost use Rattle.std.specs.Prelude.{◌≡◌, ℕ, List, slice_index, slice_set};
 ghost use Rattle.sycon.specs.Permutation.{State, permuted};
 
+use std::array;
+
 /// The bytes of a state: byte k holds the bits s(8k) to s(8k + 7), the first as its lowest bit.
 pub type StateBytes = [u8; 40];
 
@@ -44,15 +46,5 @@ pub trait TwoWay: Engine {
 pub fn bytes<E: Engine>(engine: &E) -> StateBytes
     ensures { result ≡ E.Engine.state engine.now }
 {
-    let mut bytes = [0u8; 40];
-    read(engine, &mut bytes);
-    bytes
-}
-
-fn read<E: Engine>(engine: &E, bytes: &mut StateBytes)
-    ensures { bytes.new ≡ E.Engine.state engine.now }
-{
-    for k in 0..40 {
-        bytes[k] = engine.byte(k);
-    }
+    array::from_fn(|k| engine.byte(k))
 }

@@ -25,44 +25,33 @@ pub trait RoundsBack: Rounds {
 pub fn ahead<T: Rounds>(engine: &mut T, r: usize)
     ensures { T.Rounds.held engine.new ≡ permuted r (T.Rounds.held engine.old) }
 {
-    run(engine, r.min(14));
+    for constant in &CONSTANTS[..r.min(14)] {
+        engine.round(*constant);
+    }
 }
 
 /// The first `r` rounds taken back, the last one first; an `r` above 14 counts as 14.
 pub fn back<T: RoundsBack>(engine: &mut T, r: usize)
     ensures { permuted r (T.Rounds.held engine.new) ≡ T.Rounds.held engine.old }
 {
-    run_back(engine, r.min(14));
-}
-
-// The rounds 0 to n - 1.
-fn run<T: Rounds>(engine: &mut T, n: usize)
-    requires { n ≤ 14 }
-    ensures { (r : ℕ) → n ≡ min r 14 → T.Rounds.held engine.new ≡ permuted r (T.Rounds.held engine.old) }
-{
-    for i in 0..n {
-        engine.round(constant(i));
+    for constant in CONSTANTS[..r.min(14)].iter().rev() {
+        engine.round_back(*constant);
     }
 }
 
-// The rounds n - 1 to 0, taken back.
-fn run_back<T: RoundsBack>(engine: &mut T, n: usize)
-    requires { n ≤ 14 }
-    ensures { (r : ℕ) → n ≡ min r 14 → permuted r (T.Rounds.held engine.new) ≡ T.Rounds.held engine.old }
-{
-    for i in (0..n).rev() {
-        engine.round_back(constant(i));
-    }
-}
-
-const CONSTANT_BYTES: [u8; 14] = [
-    0x15, 0x1A, 0x1D, 0x0E, 0x17, 0x1B, 0x0D, 0x06, 0x03, 0x11, 0x18, 0x1C, 0x1E, 0x1F,
+const CONSTANTS: [u64; 14] = [
+    0xAAAA_AAAA_AAAA_AA15,
+    0xAAAA_AAAA_AAAA_AA1A,
+    0xAAAA_AAAA_AAAA_AA1D,
+    0xAAAA_AAAA_AAAA_AA0E,
+    0xAAAA_AAAA_AAAA_AA17,
+    0xAAAA_AAAA_AAAA_AA1B,
+    0xAAAA_AAAA_AAAA_AA0D,
+    0xAAAA_AAAA_AAAA_AA06,
+    0xAAAA_AAAA_AAAA_AA03,
+    0xAAAA_AAAA_AAAA_AA11,
+    0xAAAA_AAAA_AAAA_AA18,
+    0xAAAA_AAAA_AAAA_AA1C,
+    0xAAAA_AAAA_AAAA_AA1E,
+    0xAAAA_AAAA_AAAA_AA1F,
 ];
-
-// The constant of round i.
-fn constant(i: usize) -> u64
-    requires { i < 14 }
-    ensures { result ≡ round_constant i }
-{
-    0xAAAA_AAAA_AAAA_AA00 + CONSTANT_BYTES[i] as u64
-}

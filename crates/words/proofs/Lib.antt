@@ -1,2 +1,3 @@
 mod Bytes
+pub mod Halving
 pub mod Held

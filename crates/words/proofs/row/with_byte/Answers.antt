@@ -12,6 +12,6 @@ returns c =
     let b = c.args.b in
     let within : 8 * i + 8 ≤ 64 = omega arith in
     record {
-      here = replaced_here 64 8 (8 * i) within c.args.x b c.ranges.b.fits;
-      there = λ m h o. replaced_there 64 8 (8 * i) within c.args.x b c.ranges.b.fits m h (apart m i o);
+      here = rw c.from.ensures (replaced_here 64 8 (8 * i) within c.args.x b c.ranges.b.fits);
+      there = λ m h o. rw c.from.ensures (replaced_there 64 8 (8 * i) within c.args.x b c.ranges.b.fits m h (apart m i o));
     }

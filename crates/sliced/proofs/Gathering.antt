@@ -1,10 +1,10 @@
 -- Terms of rotations and masks that bring each column from its place.
-use Rattle.std.proofs.Common.{◌≡◌, ℕ, zero, suc, ◌+◌, ◌%◌, ◌<◌, Bool, true, false, ◌&&◌, T, eqb, ltb, List, [], ◌∷◌, length, get_or, take, fold, refl, ap, ◌∙◌, mod-eq_of_lt, arith, eqb→eq, ltb→lt}
+use Rattle.std.proofs.Common.{◌≡◌, ℕ, zero, suc, ◌+◌, ◌%◌, ◌^◌, ◌<◌, Bool, true, false, ◌&&◌, T, eqb, ltb, List, [], ◌∷◌, get_or, fold, refl, ap, ap₂, ◌∙◌, mod-eq_of_lt, arith, eqb→eq, ltb→lt}
 use lib.Bits.{bit_and, bit_xor, and_zero_r, xor_zero_r, and_mask}
-use Rattle.std.proofs.lemmas.List.Sums.{fold_more}
 use Rattle.sycon.specs.Permutation.{bit}
-use Rattle.sycon.proofs.Digits.{bit-digit}
-use Rattle.sycon.proofs.Tests.{every, both, at}
+use Rattle.std.specs.Int.{w64, rotate_right}
+use Rattle.sycon.proofs.Digits.{bit-digit, bit-and, bit-rotate, bit-xor, bit-zero}
+use Rattle.sycon.proofs.Tests.{every, both, at_cells}
 use Rattle.sliced.specs.Rows.{gathered}
 
 -- by a digit: the first answer at 1, the second at 0
@@ -63,16 +63,31 @@ module _ (row : ℕ → ℕ) (c : ℕ) where
   unfolding gathered
   gathered_from d ts p h = one_leads d ts p h
 
--- one term more
-pub gathered_more : (row : ℕ → ℕ) (c : ℕ) (ts : List (ℕ × ℕ)) (i : ℕ) → i < length ts
-    → gathered (take (i + 1) ts) row c
-    ≡ bit_xor (gathered (take i ts) row c) (bit_and (row ((c + (get_or ts i (0, 0)).0) % 64)) (bit (get_or ts i (0, 0)).1 c))
-unfolding gathered
-gathered_more row c ts i h = fold_more (step row c) 0 ts i (0, 0) h
+-- the word that the terms make of x, bit by bit
+module _ (x c : ℕ) (fits : x < 2 ^ 64) (h : c < 64) where
+  abbrev pub masked : ℕ → ℕ × ℕ → ℕ
+  masked row t = bit_xor row (bit_and (rotate_right w64 x t.0) t.1)
 
--- terms that bring column `from c` to column `to c`, by one test of the 64 columns
-pub gathered_along : (to from : ℕ → ℕ) (x r : ℕ) (ts : List (ℕ × ℕ)) → ((c : ℕ) → c < 64 → bit r c ≡ gathered ts (bit x) c)
-    → T (every 64 (λ c. ltb (to c) 64 && leads ts (to c) (from c))) → (c : ℕ) → c < 64 → bit r (to c) ≡ bit x (from c)
-gathered_along to from x r ts e t c h =
-    let (low, led) = both (ltb (to c) 64) (leads ts (to c) (from c)) (at 64 (λ c. ltb (to c) 64 && leads ts (to c) (from c)) t c h) in
-    e (to c) (ltb→lt (to c) 64 low) ∙ gathered_from (bit x) (to c) (bit-digit x) ts (from c) led
+  bit-fold : (ts : List (ℕ × ℕ)) (row d : ℕ) → bit row c ≡ d → bit (fold masked row ts) c ≡ fold (step (bit x) c) d ts
+  bit-fold [] row d e = e
+  bit-fold (t ∷ ts) row d e =
+      bit-fold ts (masked row t) (step (bit x) c d t)
+      (bit-xor row (bit_and (rotate_right w64 x t.0) t.1) c
+      ∙ ap₂ bit_xor e (bit-and (rotate_right w64 x t.0) t.1 c ∙ ap (λ d. bit_and d (bit t.1 c)) (bit-rotate x t.0 c fits h)))
+
+  pub bit-gathered : (ts : List (ℕ × ℕ)) → bit (fold masked 0 ts) c ≡ gathered ts (bit x) c
+  unfolding gathered
+  bit-gathered ts = bit-fold ts 0 0 (bit-zero c)
+
+-- terms for each word that bring column `from j c` to column `to j c`, by one test of all columns
+module _ (table : List (List (ℕ × ℕ))) (to from : ℕ → ℕ → ℕ) where
+  abbrev led : ℕ → ℕ → Bool
+  led j c = ltb (to j c) 64 && leads (get_or table j []) (to j c) (from j c)
+
+  pub gathered_along : (ws vs : List ℕ)
+      → ((j : ℕ) → j < 5 → (c : ℕ) → c < 64 → bit (get_or vs j 0) c ≡ gathered (get_or table j []) (bit (get_or ws j 0)) c)
+      → T (every 5 (λ j. every 64 (led j))) → (j c : ℕ) → j < 5 → c < 64 → bit (get_or vs j 0) (to j c) ≡ bit (get_or ws j 0) (from j c)
+  gathered_along ws vs e t j c hj hc =
+      let (low, here) = both (ltb (to j c) 64) (leads (get_or table j []) (to j c) (from j c)) (at_cells led t j c hj hc) in
+      e j hj (to j c) (ltb→lt (to j c) 64 low)
+      ∙ gathered_from (bit (get_or ws j 0)) (to j c) (bit-digit (get_or ws j 0)) (get_or table j []) (from j c) here

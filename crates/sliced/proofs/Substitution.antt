@@ -99,27 +99,33 @@ not64 x = 18446744073709551615 - x
 not : {x : ℕ} {p : ℕ → ℕ} → Slices x p → Slices (not64 x) (λ c. flip (p c))
 not {x} s = record { fits = omega arith; digits = λ c l. bit_not 64 x c s.fits l ∙ ap flip (s.digits c l) }
 
-module _ (x0 x1 x2 x3 x4 : ℕ) where
+module _ (ws : List ℕ) where
   abbrev on_words : List ℕ
-  on_words = formulas not64 x0 x1 x2 x3 x4
+  on_words = formulas not64 (get_or ws 0 0) (get_or ws 1 0) (get_or ws 2 0) (get_or ws 3 0) (get_or ws 4 0)
 
   abbrev on_words_back : List ℕ
-  on_words_back = inverse_formulas not64 x0 x1 x2 x3 x4
+  on_words_back = inverse_formulas not64 (get_or ws 0 0) (get_or ws 1 0) (get_or ws 2 0) (get_or ws 3 0) (get_or ws 4 0)
+
+  abbrev digit : ℕ → ℕ → ℕ
+  digit j c = bit (get_or ws j 0) c
 
   abbrev in_columns : Bits
-  in_columns j c = get_or (formulas flip (bit x0 c) (bit x1 c) (bit x2 c) (bit x3 c) (bit x4 c)) j 0
+  in_columns j c = get_or (formulas flip (digit 0 c) (digit 1 c) (digit 2 c) (digit 3 c) (digit 4 c)) j 0
 
   abbrev in_columns_back : Bits
-  in_columns_back j c = get_or (inverse_formulas flip (bit x0 c) (bit x1 c) (bit x2 c) (bit x3 c) (bit x4 c)) j 0
+  in_columns_back j c = get_or (inverse_formulas flip (digit 0 c) (digit 1 c) (digit 2 c) (digit 3 c) (digit 4 c)) j 0
 
-  module _ (h0 : x0 < 2 ^ 64) (h1 : x1 < 2 ^ 64) (h2 : x2 < 2 ^ 64) (h3 : x3 < 2 ^ 64) (h4 : x4 < 2 ^ 64) where
+  below : (j c : ℕ) → digit j c < 2
+  below j c = bit-digit (get_or ws j 0) c
+
+  module _ (fits : (j : ℕ) → get_or ws j 0 < 2 ^ 64) where
     columnwise : (j : ℕ) → j < 5 → Slices (get_or on_words j 0) (in_columns j)
     columnwise =
-        let a0 = slices h0 in
-        let a1 = slices h1 in
-        let a2 = slices h2 in
-        let a3 = slices h3 in
-        let a4 = slices h4 in
+        let a0 = slices (fits 0) in
+        let a1 = slices (fits 1) in
+        let a2 = slices (fits 2) in
+        let a3 = slices (fits 3) in
+        let a4 = slices (fits 4) in
         let t0 = a2 xor a4 in
         let t1 = t0 xor a1 in
         let t2 = a1 xor a3 in
@@ -130,11 +136,11 @@ module _ (x0 x1 x2 x3 x4 : ℕ) where
 
     columnwise_back : (j : ℕ) → j < 5 → Slices (get_or on_words_back j 0) (in_columns_back j)
     columnwise_back =
-        let b0 = slices h0 in
-        let b1 = slices h1 in
-        let b2 = slices h2 in
-        let b3 = slices h3 in
-        let b4 = slices h4 in
+        let b0 = slices (fits 0) in
+        let b1 = slices (fits 1) in
+        let b2 = slices (fits 2) in
+        let b3 = slices (fits 3) in
+        let b4 = slices (fits 4) in
         let t0 = b0 xor b3 in
         let t1 = t0 xor b1 in
         let a0 = not ((b1 or b3) xor b2 xor (t1 and not b3 or b4)) in
@@ -144,25 +150,22 @@ module _ (x0 x1 x2 x3 x4 : ℕ) where
         let a2 = not a4 xor t0 xor not a1 and a3 in
         by_word (λ j. Slices (get_or on_words_back j 0) (in_columns_back j)) a0 a1 a2 a3 a4
 
-    pub sliced_sbox : Same (word_bits on_words) (substituted (word_bits (x0 ∷ x1 ∷ x2 ∷ x3 ∷ x4 ∷ [])))
+    pub sliced_sbox : Same (word_bits on_words) (substituted (word_bits ws))
     unfolding substituted column
     sliced_sbox j c hj hc =
         (columnwise j hj).digits c hc
-        ∙ on_digits j (bit x0 c) (bit x1 c) (bit x2 c) (bit x3 c) (bit x4 c) hj
-        (bit-digit x0 c) (bit-digit x1 c) (bit-digit x2 c) (bit-digit x3 c) (bit-digit x4 c)
+        ∙ on_digits j (digit 0 c) (digit 1 c) (digit 2 c) (digit 3 c) (digit 4 c) hj
+        (below 0 c) (below 1 c) (below 2 c) (below 3 c) (below 4 c)
 
-    same_digit : (c j : ℕ) → j < 5
-        → get_or (bit x0 c ∷ bit x1 c ∷ bit x2 c ∷ bit x3 c ∷ bit x4 c ∷ []) j 0 ≡ bit (get_or (x0 ∷ x1 ∷ x2 ∷ x3 ∷ x4 ∷ []) j 0) c
+    same_digit : (c j : ℕ) → j < 5 → get_or (digit 0 c ∷ digit 1 c ∷ digit 2 c ∷ digit 3 c ∷ digit 4 c ∷ []) j 0 ≡ digit j c
     same_digit c =
-        by_word
-        (λ j. get_or (bit x0 c ∷ bit x1 c ∷ bit x2 c ∷ bit x3 c ∷ bit x4 c ∷ []) j 0 ≡ bit (get_or (x0 ∷ x1 ∷ x2 ∷ x3 ∷ x4 ∷ []) j 0) c)
-        refl refl refl refl refl
+        by_word (λ j. get_or (digit 0 c ∷ digit 1 c ∷ digit 2 c ∷ digit 3 c ∷ digit 4 c ∷ []) j 0 ≡ digit j c) refl refl refl refl refl
 
-    pub sliced_sbox_back : Same (substituted (word_bits on_words_back)) (word_bits (x0 ∷ x1 ∷ x2 ∷ x3 ∷ x4 ∷ []))
+    pub sliced_sbox_back : Same (substituted (word_bits on_words_back)) (word_bits ws)
     unfolding substituted column
     sliced_sbox_back j c hj hc =
         ap (λ n. bit (get_or sbox n 0) j)
         (column_same (word_bits on_words_back) in_columns_back (λ j c hj hc. (columnwise_back j hj).digits c hc) c hc)
-        ∙ on_digits_back j (bit x0 c) (bit x1 c) (bit x2 c) (bit x3 c) (bit x4 c) hj
-        (bit-digit x0 c) (bit-digit x1 c) (bit-digit x2 c) (bit-digit x3 c) (bit-digit x4 c)
+        ∙ on_digits_back j (digit 0 c) (digit 1 c) (digit 2 c) (digit 3 c) (digit 4 c) hj
+        (below 0 c) (below 1 c) (below 2 c) (below 3 c) (below 4 c)
         ∙ same_digit c j hj

@@ -1,36 +1,41 @@
 //! Steps 1 and 4 of a round on five words, there and back, each on all 64 columns at once.
 
-ghost use Rattle.std.specs.Prelude.{◌≡◌, ℕ, ◌<◌, [], ◌∷◌};
+ghost use Rattle.std.specs.Prelude.{◌≡◌, ℕ, ◌<◌};
 ghost use Rattle.sliced.specs.Rows.{gathered};
 ghost use Rattle.sycon.specs.Permutation.{arranged, bit, substituted};
 ghost use Rattle.sycon.specs.Steps.{on_state};
-ghost use Rattle.words.specs.Words.{held, meant};
+ghost use Rattle.words.specs.Words.{meant};
 
+use std::array;
 use words::Words;
 
 pub mod engine;
 
 // The S-box on all columns.
-fn sbox(a0: u64, a1: u64, a2: u64, a3: u64, a4: u64) -> Words
-    ensures { meant result ≡ on_state substituted (held (a0 ∷ a1 ∷ a2 ∷ a3 ∷ a4 ∷ [])) }
+fn sbox(words: &Words) -> Words
+    ensures { meant result ≡ on_state substituted (meant words.now) }
 {
+    let [a0, a1, a2, a3, a4] = words.rows;
     let t0 = a2 ^ a4;
     let t1 = t0 ^ a1;
     let t2 = a1 ^ a3;
     let t3 = a0 ^ a4;
     Words {
-        a0: t3 ^ (t1 & a3),
-        a1: (!a1 & a3) ^ t1 ^ (!t2 & a0),
-        a2: (!t3 & a2) ^ t2,
-        a3: (!t0 & a3) ^ a0 ^ !a2,
-        a4: (!a4 & a0) ^ t2,
+        rows: [
+            t3 ^ (t1 & a3),
+            (!a1 & a3) ^ t1 ^ (!t2 & a0),
+            (!t3 & a2) ^ t2,
+            (!t0 & a3) ^ a0 ^ !a2,
+            (!a4 & a0) ^ t2,
+        ],
     }
 }
 
 // The words that the S-box takes to these.
-fn inverse_sbox(b0: u64, b1: u64, b2: u64, b3: u64, b4: u64) -> Words
-    ensures { on_state substituted (meant result) ≡ held (b0 ∷ b1 ∷ b2 ∷ b3 ∷ b4 ∷ []) }
+fn inverse_sbox(words: &Words) -> Words
+    ensures { on_state substituted (meant result) ≡ meant words.now }
 {
+    let [b0, b1, b2, b3, b4] = words.rows;
     let t0 = b0 ^ b3;
     let t1 = t0 ^ b1;
     let a0 = !((b1 | b3) ^ b2 ^ ((t1 & !b3) | b4));
@@ -38,12 +43,17 @@ fn inverse_sbox(b0: u64, b1: u64, b2: u64, b3: u64, b4: u64) -> Words
     let a4 = (a3 & t0) ^ a0 ^ b0;
     let a1 = (!a4 & a0) ^ a3 ^ b4;
     let a2 = !a4 ^ t0 ^ (!a1 & a3);
-    Words { a0, a1, a2, a3, a4 }
+    Words {
+        rows: [a0, a1, a2, a3, a4],
+    }
 }
+
+// A rotation to the right, and the mask that it is cut down to.
+type Term = (u32, u64);
 
 // For each word the terms (k, mask) of step 4: column c, where the mask has it, comes from column c + k.
 // The term (0, 0) adds nothing.
-const ARRANGEMENT: [[(u32, u64); 7]; 5] = [
+const ARRANGEMENT: [[Term; 7]; 5] = [
     [
         (3, 0x0000_E000_00FF_1F00),
         (11, 0xFF00_001F_FF00_0000),
@@ -92,7 +102,7 @@ const ARRANGEMENT: [[(u32, u64); 7]; 5] = [
 ];
 
 // The terms that take step 4 back.
-const UNARRANGEMENT: [[(u32, u64); 7]; 5] = [
+const UNARRANGEMENT: [[Term; 7]; 5] = [
     [
         (5, 0x0000_0007_0000_0000),
         (13, 0x07F8_0000_0000_0007),
@@ -141,26 +151,21 @@ const UNARRANGEMENT: [[(u32, u64); 7]; 5] = [
 ];
 
 // Rotations of the word, each cut down to its mask, in one word.
-fn gather(x: u64, terms: &[(u32, u64)]) -> u64
+fn gather(x: u64, terms: &[Term; 7]) -> u64
     ensures { (c : ℕ) → c < 64 → bit result c ≡ gathered terms.now (bit x) c }
 {
-    let mut r = 0;
-    for (k, mask) in terms {
-        r ^= x.rotate_right(*k) & *mask;
-    }
-    r
+    terms
+        .iter()
+        .fold(0, |row, (k, mask)| row ^ (x.rotate_right(*k) & *mask))
 }
 
-// Step 4.
+// Step 4. The table is named here and in `unarrange`, and is no argument of one function for both: a table that comes as
+// an argument is read at run time, and the rounds then take twice as long.
 fn arrange(words: &Words) -> Words
     ensures { meant result ≡ on_state arranged (meant words.now) }
 {
     Words {
-        a0: gather(words.a0, &ARRANGEMENT[0]),
-        a1: gather(words.a1, &ARRANGEMENT[1]),
-        a2: gather(words.a2, &ARRANGEMENT[2]),
-        a3: gather(words.a3, &ARRANGEMENT[3]),
-        a4: gather(words.a4, &ARRANGEMENT[4]),
+        rows: array::from_fn(|j| gather(words.rows[j], &ARRANGEMENT[j])),
     }
 }
 
@@ -169,10 +174,6 @@ fn unarrange(words: &Words) -> Words
     ensures { on_state arranged (meant result) ≡ meant words.now }
 {
     Words {
-        a0: gather(words.a0, &UNARRANGEMENT[0]),
-        a1: gather(words.a1, &UNARRANGEMENT[1]),
-        a2: gather(words.a2, &UNARRANGEMENT[2]),
-        a3: gather(words.a3, &UNARRANGEMENT[3]),
-        a4: gather(words.a4, &UNARRANGEMENT[4]),
+        rows: array::from_fn(|j| gather(words.rows[j], &UNARRANGEMENT[j])),
     }
 }

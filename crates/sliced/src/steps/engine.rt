@@ -1,15 +1,13 @@
 //! The engine of five words.
 
 ghost use Rattle.sliced.specs.Sliced.{state_of};
-ghost use Rattle.sycon.specs.Permutation.{substituted};
-ghost use Rattle.sycon.specs.Steps.{on_state};
-ghost use Rattle.words.specs.Words.{meant, rows};
+ghost use Rattle.words.specs.Words.{rows};
 ghost use Rattle.std.specs.Prelude.{◌≡◌, replicate};
 ghost use Rattle.words.proofs.Held.{held_state};
 
+use super::{arrange, inverse_sbox, sbox, unarrange};
 use sycon::engine::{Engine, StateBytes, TwoWay};
-use sycon::rounds;
-use sycon::rounds::{Rounds, RoundsBack};
+use sycon::rounds::{self, Rounds, RoundsBack};
 use words::Words;
 
 /// An engine that keeps the state as five words.
@@ -51,19 +49,19 @@ impl Rounds for Sliced {
     ghost held = { state_of };
 
     fn round(&mut self, constant: u64) {
-        let mut words = substitute(&self.words);
+        let mut words = sbox(&self.words);
         words.diffuse();
         words.add_constant(constant);
-        self.words = super::arrange(&words);
+        self.words = arrange(&words);
     }
 }
 
 impl RoundsBack for Sliced {
     fn round_back(&mut self, constant: u64) {
-        let mut words = super::unarrange(&self.words);
+        let mut words = unarrange(&self.words);
         words.add_constant(constant);
         words.undiffuse();
-        self.words = unsubstitute(&words);
+        self.words = inverse_sbox(&words);
     }
 }
 
@@ -76,18 +74,4 @@ impl Sliced {
             words: Words::load(&[0; 40]),
         }
     }
-}
-
-// Step 1.
-fn substitute(words: &Words) -> Words
-    ensures { meant result ≡ on_state substituted (meant words.now) }
-{
-    super::sbox(words.a0, words.a1, words.a2, words.a3, words.a4)
-}
-
-// Step 1, taken back.
-fn unsubstitute(words: &Words) -> Words
-    ensures { on_state substituted (meant result) ≡ meant words.now }
-{
-    super::inverse_sbox(words.a0, words.a1, words.a2, words.a3, words.a4)
 }

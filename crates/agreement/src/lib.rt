@@ -2,6 +2,8 @@
 
 #![tactic(auto)]
 
+ghost use Rattle.columns.specs.Engine.{state_of as columns_state};
+ghost use Rattle.sliced.specs.Sliced.{state_of as sliced_state};
 ghost use Rattle.sycon.specs.Permutation.{permuted};
 ghost use Rattle.std.specs.Prelude.{◌≡◌};
 
@@ -22,15 +24,9 @@ pub fn turned(bytes: &StateBytes, r: usize) -> Outcomes
     ensures agree { result.sliced ≡ result.columns }
     ensures permuted { result.sliced ≡ permuted r bytes.now }
 {
-    let mut sliced = Sliced::new();
-    let mut columns = Columns::new();
-    sliced.load(bytes);
-    columns.load(bytes);
-    laws::turn_both(&mut sliced, &mut columns, r);
-    Outcomes {
-        sliced: engine::bytes(&sliced),
-        columns: engine::bytes(&columns),
-    }
+    let mut engines = Engines::load(bytes);
+    laws::turn_both(&mut engines.sliced, &mut engines.columns, r);
+    engines.outcomes()
 }
 
 /// Both engines, turned back from these bytes on.
@@ -38,13 +34,37 @@ pub fn turned_back(bytes: &StateBytes, r: usize) -> Outcomes
     ensures agree { result.sliced ≡ result.columns }
     ensures permuted { permuted r result.sliced ≡ bytes.now }
 {
-    let mut sliced = Sliced::new();
-    let mut columns = Columns::new();
-    sliced.load(bytes);
-    columns.load(bytes);
-    laws::turn_both_back(&mut sliced, &mut columns, r);
-    Outcomes {
-        sliced: engine::bytes(&sliced),
-        columns: engine::bytes(&columns),
+    let mut engines = Engines::load(bytes);
+    laws::turn_both_back(&mut engines.sliced, &mut engines.columns, r);
+    engines.outcomes()
+}
+
+#[derive(Drop)]
+struct Engines {
+    sliced: Sliced,
+    columns: Columns,
+}
+
+impl Engines {
+    // Both in the state of these bytes.
+    fn load(bytes: &StateBytes) -> Self
+        ensures sliced { sliced_state result.sliced ≡ bytes.now }
+        ensures columns { columns_state result.columns ≡ bytes.now }
+    {
+        let mut sliced = Sliced::new();
+        let mut columns = Columns::new();
+        sliced.load(bytes);
+        columns.load(bytes);
+        Engines { sliced, columns }
+    }
+
+    fn outcomes(&self) -> Outcomes
+        ensures sliced { result.sliced ≡ sliced_state self.now.sliced }
+        ensures columns { result.columns ≡ columns_state self.now.columns }
+    {
+        Outcomes {
+            sliced: engine::bytes(&self.sliced),
+            columns: engine::bytes(&self.columns),
+        }
     }
 }

@@ -4,8 +4,8 @@ use Rattle.std.proofs.Common.{sym, ap, ◌∙◌, mod-lt, eqb→eq, lit<}
 use Rattle.sycon.specs.Permutation.{Bits, bit, sbox, column, substituted}
 use Rattle.sycon.specs.Steps.{Same, on_state}
 use Rattle.sycon.proofs.Digits.{bit-mod}
-use Rattle.sycon.proofs.Packing.{number-bits, bit-number}
-use Rattle.sycon.proofs.Steps.{Respects, Digits, column_is, holding_step, holding_step_back, respects-substituted}
+use Rattle.sycon.proofs.Packing.{number-bits}
+use Rattle.sycon.proofs.Steps.{Respects, column_is, holding_step, holding_step_back, respects-substituted}
 use Rattle.sycon.proofs.Tests.{every, at}
 use Rattle.columns.specs.Columns.{column_bits, held}
 use Rattle.columns.specs.Held.{digits}
@@ -18,11 +18,6 @@ held_step = holding_step column_bits digits
 pub held_step_back : (step : Bits → Bits) → Respects step → (cs ds : List ℕ) → Same (step (column_bits ds)) (column_bits cs)
     → on_state step (held ds) ≡ held cs
 held_step_back = holding_step_back column_bits digits
-
--- columns that are the numbers of the bits f have these bits
-pub columns_same : (f : Bits) → Digits f → (cs : List ℕ) → ((c : ℕ) → c < 64 → slice_index cs c ≡ column f c) → Same (column_bits cs) f
-columns_same f d cs e j c hj hc =
-    ap (λ x. bit x j) (e c hc ∙ column_is f c) ∙ bit-number 5 (λ j. f j c) (λ j. d j c) j hj
 
 -- of a column only its five bits count
 column_of_bits : (cs : List ℕ) (c : ℕ) → column (column_bits cs) c ≡ slice_index cs c % 32

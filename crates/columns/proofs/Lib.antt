@@ -1,2 +1,4 @@
+mod Folding
 mod Held
+mod Mapped
 mod Moving

@@ -3,10 +3,11 @@
 ghost use Rattle.std.specs.Prelude.{◌≡◌, ℕ, ◌+◌, ◌*◌, ◌%◌, ◌<◌, map, ◌≢◌, slice_index, slice_set};
 ghost use Rattle.columns.specs.Columns.{column_bits, held};
 ghost use Rattle.std.specs.List.{range_with_len};
-ghost use Rattle.sycon.specs.Permutation.{arranged, bit, origin, sbox, substituted};
+ghost use Rattle.sycon.specs.Permutation.{arranged, bit, origin, substituted};
 ghost use Rattle.sycon.specs.Steps.{on_state, pl2_rule};
-ghost use Rattle.words.specs.Words.{meant};
+ghost use Rattle.words.specs.Words.{meant, word_bits};
 
+use std::array;
 use tables::{INVERSE_SBOX, PL2, SBOX};
 use words::Words;
 
@@ -26,7 +27,8 @@ fn digit(x: u64, k: usize) -> u8
 
 // The byte with bit j replaced.
 fn with_bit(x: u8, j: usize, b: u8) -> u8
-    requires { (j < 8) × (b < 2) }
+    requires place { j < 8 }
+    requires digit { b < 2 }
     ensures here { bit result j ≡ b }
     ensures there { (i : ℕ) → i < 8 → (i ≢ j) → bit result i ≡ bit x i }
 {
@@ -35,7 +37,9 @@ fn with_bit(x: u8, j: usize, b: u8) -> u8
 
 // Bit j of column c becomes b.
 fn put_bit(columns: &mut ColumnBytes, c: usize, j: usize, b: u8)
-    requires { (c < 64) × ((j < 8) × (b < 2)) }
+    requires column { c < 64 }
+    requires place { j < 8 }
+    requires digit { b < 2 }
     ensures here { column_bits columns.new j c ≡ b }
     ensures there { (i d : ℕ) → i < 8 → (d ≡ c → i ≢ j)
         → column_bits columns.new i d ≡ column_bits columns.old i d }
@@ -43,31 +47,23 @@ fn put_bit(columns: &mut ColumnBytes, c: usize, j: usize, b: u8)
     columns[c] = with_bit(columns[c], j, b);
 }
 
-// The number of a column whose digits these are, A_0's the units.
-fn joined(d0: u8, d1: u8, d2: u8, d3: u8, d4: u8) -> u8
-    requires { (d0 < 2) × ((d1 < 2) × ((d2 < 2) × ((d3 < 2) × (d4 < 2)))) }
-    ensures { result ≡ d0 + 2 * (d1 + 2 * (d2 + 2 * (d3 + 2 * d4))) }
+// The column that has these digits, A_0's the lowest.
+fn joined(digits: [u8; 5]) -> u8
+    requires { (j : ℕ) → j < 5 → slice_index digits j < 2 }
+    ensures { (j : ℕ) → j < 5 → bit result j ≡ slice_index digits j }
 {
-    d0 | d1 << 1 | d2 << 2 | d3 << 3 | d4 << 4
+    digits
+        .iter()
+        .rev()
+        .fold(0, |column, digit| column << 1 | *digit)
 }
 
 // Column c of five words.
-fn column_of(words: &Words, c: usize) -> u8
+fn column_of(rows: &[u64; 5], c: usize) -> u8
     requires { c < 64 }
-    ensures { result
-        ≡ bit words.now.a0 c
-        + 2 * (bit words.now.a1 c
-        + 2 * (bit words.now.a2 c
-        + 2 * (bit words.now.a3 c
-        + 2 * bit words.now.a4 c))) }
+    ensures { (j : ℕ) → j < 5 → bit result j ≡ word_bits rows.now j c }
 {
-    joined(
-        digit(words.a0, c),
-        digit(words.a1, c),
-        digit(words.a2, c),
-        digit(words.a3, c),
-        digit(words.a4, c),
-    )
+    joined(array::from_fn(|j| digit(rows[j], c)))
 }
 
 // Bit j of each column, as a word.
@@ -75,32 +71,23 @@ fn row_of(columns: &ColumnBytes, j: usize) -> u64
     requires { j < 8 }
     ensures { (c : ℕ) → c < 64 → bit result c ≡ column_bits columns.now j c }
 {
-    let mut row = 0;
-    for c in 0..64 {
-        row |= (digit(columns[c] as u64, j) as u64) << c;
-    }
-    row
+    columns.iter().rev().fold(0, |row, column| {
+        row << 1 | u64::from(digit(u64::from(*column), j))
+    })
 }
 
 fn gather(words: &Words) -> ColumnBytes
     ensures { held result ≡ meant words.now }
 {
-    let mut columns = [0u8; 64];
-    for c in 0..64 {
-        columns[c] = column_of(words, c);
-    }
-    columns
+    let Words { rows } = words;
+    array::from_fn(|c| column_of(rows, c))
 }
 
 fn scatter(columns: &ColumnBytes) -> Words
     ensures { meant result ≡ held columns.now }
 {
     Words {
-        a0: row_of(columns, 0),
-        a1: row_of(columns, 1),
-        a2: row_of(columns, 2),
-        a3: row_of(columns, 3),
-        a4: row_of(columns, 4),
+        rows: array::from_fn(|j| row_of(columns, j)),
     }
 }
 
@@ -108,24 +95,14 @@ fn scatter(columns: &ColumnBytes) -> Words
 fn look_up(columns: &ColumnBytes, table: &[u8; 32]) -> ColumnBytes
     ensures { (c : ℕ) → c < 64 → slice_index result c ≡ slice_index table.now (slice_index columns.now c % 32) }
 {
-    let mut replaced = [0u8; 64];
-    for c in 0..64 {
-        replaced[c] = table[(columns[c] % 32) as usize];
-    }
-    replaced
-}
-
-fn sbox_table() -> &'static [u8; 32]
-    ensures { result.now ≡ sbox }
-{
-    &SBOX
+    columns.map(|column| table[usize::from(column % 32)])
 }
 
 // Step 1.
 fn substitute(columns: &ColumnBytes) -> ColumnBytes
     ensures { held result ≡ on_state substituted (held columns.now) }
 {
-    look_up(columns, sbox_table())
+    look_up(columns, &SBOX)
 }
 
 // Step 1, taken back.
@@ -135,7 +112,7 @@ fn unsubstitute(columns: &ColumnBytes) -> ColumnBytes
     look_up(columns, &INVERSE_SBOX)
 }
 
-// The table has its rule at every entry.
+// The table has its rule at every entry. It is a function so that this is computed once.
 fn pl2_table() -> &'static [u16; 320]
     ensures { result.now ≡ map pl2_rule (range_with_len 0 320) }
 {
@@ -144,44 +121,31 @@ fn pl2_table() -> &'static [u16; 320]
 
 // The column that comes to column c of word j in step 4.
 fn origin_of(c: usize, j: usize) -> usize
-    requires { (c < 64) × (j < 5) }
+    requires column { c < 64 }
+    requires word { j < 5 }
     ensures at { result ≡ origin j c }
     ensures within { result < 64 }
 {
-    pl2_table()[5 * c + j] as usize % 64
+    usize::from(pl2_table()[5 * c + j]) % 64
 }
 
 // Column c after step 4.
 fn arranged_column(columns: &ColumnBytes, c: usize) -> u8
     requires { c < 64 }
-    ensures { result
-        ≡ column_bits columns.now 0 (origin 0 c)
-        + 2 * (column_bits columns.now 1 (origin 1 c)
-        + 2 * (column_bits columns.now 2 (origin 2 c)
-        + 2 * (column_bits columns.now 3 (origin 3 c)
-        + 2 * column_bits columns.now 4 (origin 4 c)))) }
+    ensures { (j : ℕ) → j < 5 → bit result j ≡ column_bits columns.now j (origin j c) }
 {
-    joined(
-        digit(columns[origin_of(c, 0)] as u64, 0),
-        digit(columns[origin_of(c, 1)] as u64, 1),
-        digit(columns[origin_of(c, 2)] as u64, 2),
-        digit(columns[origin_of(c, 3)] as u64, 3),
-        digit(columns[origin_of(c, 4)] as u64, 4),
-    )
+    joined(array::from_fn(|j| digit(u64::from(columns[origin_of(c, j)]), j)))
 }
 
 // Step 4.
 fn arrange(columns: &ColumnBytes) -> ColumnBytes
     ensures { held result ≡ on_state arranged (held columns.now) }
 {
-    let mut moved = [0u8; 64];
-    for c in 0..64 {
-        moved[c] = arranged_column(columns, c);
-    }
-    moved
+    array::from_fn(|c| arranged_column(columns, c))
 }
 
-// Step 4, taken back: bit n, counted through the columns, is put where it came from.
+// Step 4, taken back: bit n, counted through the columns, is put where it came from. That is another column for each word,
+// so the new columns come in no order that an iterator has.
 fn unarrange(columns: &ColumnBytes) -> ColumnBytes
     ensures { on_state arranged (held result) ≡ held columns.now }
 {
@@ -189,7 +153,12 @@ fn unarrange(columns: &ColumnBytes) -> ColumnBytes
     for n in 0..320 {
         let c = n / 5;
         let j = n % 5;
-        put_bit(&mut moved, origin_of(c, j), j, digit(columns[c] as u64, j));
+        put_bit(
+            &mut moved,
+            origin_of(c, j),
+            j,
+            digit(u64::from(columns[c]), j),
+        );
     }
     moved
 }
@@ -215,13 +184,11 @@ fn byte_at(columns: &ColumnBytes, k: usize) -> u8
     requires { k < 40 }
     ensures { result ≡ slice_index (held columns.now) k }
 {
-    let j = k / 8;
     let first = 8 * (k % 8);
-    let mut byte = 0;
-    for i in 0..8 {
-        byte = with_bit(byte, i, digit(columns[first + i] as u64, j));
-    }
-    byte
+    columns[first..first + 8].iter().rev().fold(
+        0,
+        |byte, column| byte << 1 | digit(u64::from(*column), k / 8),
+    )
 }
 
 fn put_byte(columns: &mut ColumnBytes, k: usize, b: u8)
@@ -231,6 +198,6 @@ fn put_byte(columns: &mut ColumnBytes, k: usize, b: u8)
     let j = k / 8;
     let first = 8 * (k % 8);
     for i in 0..8 {
-        put_bit(columns, first + i, j, digit(b as u64, i));
+        put_bit(columns, first + i, j, digit(u64::from(b), i));
     }
 }

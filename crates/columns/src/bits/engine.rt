@@ -5,8 +5,7 @@ ghost use Rattle.std.specs.Prelude.{◌≡◌, replicate};
 ghost use Rattle.columns.specs.Held.{held_state};
 
 use sycon::engine::{Engine, StateBytes, TwoWay};
-use sycon::rounds;
-use sycon::rounds::{Rounds, RoundsBack};
+use sycon::rounds::{self, Rounds, RoundsBack};
 use words::Words;
 
 /// An engine that keeps the state as 64 columns of five bits, A_0 the units.

@@ -12,7 +12,7 @@ returns c =
     let n = 5 * c.args.c + j in
     let here : n < 320 = omega arith in
     record {
-      at = ap (λ x. x % 64) (ap (λ t. get_or t n 0) c.pl2_table.ensures ∙ get_or-map-range_with_len pl2_rule 0 320 n n 0 here (omega arith))
+      at = ap (λ x. x % 64) (c.from.ensures ∙ ap (λ t. get_or t n 0) c.pl2_table.ensures ∙ get_or-map-range_with_len pl2_rule 0 320 n n 0 here (omega arith))
           ∙ pl2_at j c.args.c (omega arith) (omega arith);
       within = mod-lt _ (lit< tt);
     }

@@ -1,5 +1,5 @@
 use Rattle.std.proofs.Common.{◌%◌, sym, ap, ◌∙◌, arith, rules}
-use Rattle.sycon.specs.Permutation.{arranged}
+use Rattle.sycon.specs.Permutation.{arranged, bit}
 use Rattle.sycon.proofs.Steps.{respects-arranged}
 use Rattle.columns.specs.Columns.{column_bits}
 use Rattle.columns.proofs.Held.{held_step_back}
@@ -13,7 +13,7 @@ loop-n-preserved c =
     let at = c.origin_of.ensures.at in (
       search rules,
       put_back_more c.args.columns.now c.loop-n.moved next n (omega arith) c.loop-n.invariant.1
-          (ap (column_bits next (n % 5)) (sym at) ∙ c.put_bit.ensures.here ∙ c.digit.ensures.value)
+          (ap (column_bits next (n % 5)) (sym at) ∙ c.put_bit.ensures.here ∙ c.digit.ensures.value ∙ ap (λ x. bit x (n % 5)) c.from.ensures)
           (λ j d hj o. c.put_bit.ensures.there j d hj (λ e f. o (e ∙ at) f)),
     )
 

@@ -6,13 +6,13 @@ ghost use Rattle.bench.specs.Codes.{code as code_of_lem, coded};
 ghost use Rattle.columns.specs.Engine.{state_of as columns_state};
 ghost use Rattle.sealing.specs.Calls.{sealing as sealing_call};
 ghost use Rattle.sliced.specs.Sliced.{state_of as sliced_state};
-ghost use Rattle.sealing.specs.Rates.{narrow};
+ghost use Rattle.sponge.specs.Rates.{narrow};
 ghost use Rattle.sycon.specs.Permutation.{permuted};
 ghost use Rattle.std.specs.Prelude.{◌≡◌};
 
 use columns::Columns;
 use refusal::Refusal;
-use sealing::{Rate64, seal};
+use sealing::{Rate64, Under, seal};
 use sliced::Sliced;
 use sycon::engine::{Engine, TwoWay};
 
@@ -59,7 +59,8 @@ pub extern "C" fn sliced_seal(
         ≡ coded (sealing_call narrow key.now nonce.now label.now text.now
         sealed.old tag.old (sliced_state engine.old)) }
 {
-    code(seal::<Rate64, Sliced>(engine, key, nonce, label, text, sealed, tag))
+    let under = Under { key, nonce, label };
+    code(seal::<Rate64, Sliced>(engine, under, text, sealed, tag))
 }
 
 fn code(answer: Result<(), Refusal>) -> u8

@@ -2,7 +2,7 @@
 use Rattle.std.proofs.Common.{◌≡◌, ℕ, true, cond, List, ◌++◌, length, drop, replicate, Ok, Err, refl, ap, ◌∙◌, arith}
 use Rattle.std.proofs.lemmas.List.{append-nil, drop_all}
 use Rattle.refusal.specs.declared.Refusal.TheVariants.{Measure}
-use Rattle.modes.specs.Calls.{measured, sealing}
+use Rattle.sealing.specs.Calls.{measured, sealing}
 use Rattle.sycon.specs.Permutation.{permuted, rounds, round, pack, packed, bits, bit, column}
 use Rattle.sycon.specs.Permutation.{substituted, diffused, added, turned, origin, arranged}
 use Rattle.sponge.specs.Blocks.{absorbed_all, cut, marked, read_off, with_bytes}

@@ -5,7 +5,7 @@ ghost use Rattle.published.specs.Examples.{digested as digested_bytes, key as ex
 ghost use Rattle.published.specs.Examples.{digesting, seal_64, sealed_64, text as example_text};
 ghost use Rattle.std.specs.Prelude.{◌≡◌, replicate};
 
-use modes::{Rate64, digest, seal};
+use sealing::{Rate64, Under, digest, seal};
 use sycon::engine::Engine;
 
 // The key, and the nonce too.
@@ -63,7 +63,8 @@ fn seal_whole<E: Engine>(
 {
     let mut bytes = [0u8; 39];
     let mut tag = [0u8; 16];
-    let _ = seal::<Rate64, E>(engine, key, nonce, label, text, &mut bytes, &mut tag);
+    let under = Under { key, nonce, label };
+    let _ = seal::<Rate64, E>(engine, under, text, &mut bytes, &mut tag);
     Sealed { bytes, tag }
 }
 

@@ -1,6 +1,5 @@
-pub mod Blocks
+pub mod Bytewise
+pub mod Exactly
 pub mod Inverse
-pub mod Parts
+pub mod OpenedBlocks
 pub mod SealedBlocks
-pub mod Squeeze
-pub mod Stream

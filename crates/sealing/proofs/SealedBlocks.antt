@@ -1,26 +1,17 @@
 -- The sealed bytes are those that the definition by blocks reads off.
-use Rattle.std.proofs.Common.{◌≡◌, ℕ, zero, suc, ◌+◌, ◌-◌, ◌*◌, ◌/◌, ◌%◌, ◌<◌, ◌≤◌, true, false, cond, eqb, ◌≢◌, List, [], ◌∷◌, ◌++◌, length, get_or, take, drop, replicate, sym, refl, ap, ◌∙◌, ap₂, suc-add, zero-add, arith, length-set}
+use Rattle.std.proofs.Common.{◌≡◌, ℕ, zero, suc, ◌+◌, ◌-◌, ◌*◌, ◌/◌, ◌%◌, ◌<◌, ◌≤◌, true, false, cond, ltb, ◌≢◌, List, [], ◌∷◌, ◌++◌, length, get_or, take, drop, replicate, sym, refl, ap, ◌∙◌, ap₂, arith, length-set}
 use lib.Bits.{bit_xor}
 use Rattle.std.proofs.lemmas.Nat.{div-add-mod', mod_below}
 use Rattle.std.proofs.lemmas.List.{get_or-set_same, get_or-set_other, drop_more, take-set-le, take-take, take_all, append-nil, take-append-drop, take-append-le, drop-append-le, length-append, length-drop, length-replicate, length-take-le}
-use Rattle.std.proofs.lemmas.Bool.{eq-eqb, ne_eqb}
+use Rattle.std.proofs.Math.Seq.{take-append-add}
+use Rattle.std.proofs.lemmas.Bool.{lt-ltb, le-ltb}
 use Rattle.sycon.specs.Permutation.{permuted}
-use Rattle.sycon.proofs.Lengths.{length-permuted}
-use Rattle.sealing.specs.Blocks.{read_off, text_pairs, cut, marked, padded}
-use Rattle.sealing.specs.Rates.{Setting}
-use Rattle.sealing.specs.Sealing.{sealed_from}
-use Rattle.sealing.specs.Sponge.{with_byte, with_bytes, with_domain, domain_byte_of, absorbed}
-use Rattle.sealing.proofs.Blocks.{zero-mul-add, suc-mul-add, with_bytes-append}
-
-length-with : (p : ℕ) (xs s : List ℕ) → length (with_bytes p xs s) ≡ length s
-unfolding with_bytes
-length-with p [] s = refl
-length-with p (x ∷ xs) s = length-with (p + 1) xs (with_byte p x s) ∙ length-set s p (bit_xor (get_or s p 0) x)
-
-pub length-absorbed : (r : ℕ) (xs : List ℕ) (d : ℕ) (s : List ℕ) → length s ≡ 40 → length (absorbed r xs d s) ≡ 40
-length-absorbed r xs d s h =
-    length-permuted r (with_domain d (with_bytes 0 xs s))
-    (length-set (with_bytes 0 xs s) 39 (bit_xor (get_or (with_bytes 0 xs s) 39 0) (domain_byte_of d)) ∙ length-with 0 xs s ∙ h)
+use Rattle.sponge.specs.Blocks.{absorbed, cut, marked, padded, read_off, with_byte, with_bytes, with_domain}
+use Rattle.sponge.specs.Rates.{Setting}
+use Rattle.sponge.specs.Modes.{sealed_in}
+use Rattle.sponge.specs.Stream.{sealed_from}
+use Rattle.sponge.proofs.Blocks.{zero-mul-add, suc-mul-add, with_bytes-append}
+use Rattle.sponge.proofs.Folds.{length-absorbed, length-with}
 
 -- bytes that go in from place p on leave those before it
 before : (k p : ℕ) (xs s : List ℕ) → k < p → get_or (with_bytes p xs s) k 0 ≡ get_or s k 0
@@ -31,7 +22,7 @@ before k p (x ∷ xs) s h =
     before k (p + 1) xs (with_byte p x s) (omega arith) ∙ get_or-set_other s p k (bit_xor (get_or s p 0) x) 0 ne
 
 -- the sealed byte at place p stands there still when the block is full
-here : (p x : ℕ) (xs s : List ℕ) → p < length s
+pub here : (p x : ℕ) (xs s : List ℕ) → p < length s
     → drop p (with_bytes p (x ∷ xs) s) ≡ bit_xor (get_or s p 0) x ∷ drop (p + 1) (with_bytes p (x ∷ xs) s)
 unfolding with_bytes
 here p x xs s h =
@@ -47,21 +38,17 @@ front_stays k p [] s h = refl
 front_stays k p (x ∷ xs) s h =
     front_stays k (p + 1) xs (with_byte p x s) (omega arith) ∙ take-set-le k s p (bit_xor (get_or s p 0) x) h
 
-take_past : (xs ys : List ℕ) (m : ℕ) → take (length xs + m) (xs ++ ys) ≡ xs ++ take m ys
-take_past [] ys m = ap (λ k. take k ys) (zero-add m)
-take_past (x ∷ xs) ys m = ap (λ k. take k (x ∷ (xs ++ ys))) (suc-add (length xs) m) ∙ ap (◌∷◌ x) (take_past xs ys m)
-
 module _ (t : Setting) where
   -- bytes that do not fill the block
-  sealed_open : (p : ℕ) (xs s : List ℕ) → p + length xs < t.block → p + length xs ≤ length s
+  pub sealed_open : (p : ℕ) (xs s : List ℕ) → p + length xs < t.block → p + length xs ≤ length s
       → sealed_from t p xs s ≡ take (length xs) (drop p (with_bytes p xs s))
   unfolding sealed_from with_bytes
   sealed_open p [] s h l = refl
   sealed_open p (x ∷ xs) s h l =
-      let ne : eqb (p + 1) t.block ≡ false = ne_eqb (p + 1) t.block (λ e. omega arith) in
+      let lt : ltb (p + 1) t.block ≡ true = lt-ltb (p + 1) t.block (omega arith) in
       let m : (p + 1) + length xs ≤ length (with_byte p x s) = rw (length-set s p (bit_xor (get_or s p 0) x)) (omega arith) in
-      ap (λ b. bit_xor (get_or s p 0) x ∷ sealed_from t (cond b 0 (p + 1)) xs
-      (cond b (permuted t.rounds (with_domain 2 (with_byte p x s))) (with_byte p x s))) ne
+      ap (λ b. bit_xor (get_or s p 0) x ∷ sealed_from t (cond b (p + 1) 0) xs
+      (cond b (with_byte p x s) (permuted t.rounds (with_domain 2 (with_byte p x s))))) lt
       ∙ ap (◌∷◌ (bit_xor (get_or s p 0) x)) (sealed_open (p + 1) xs (with_byte p x s) (omega arith) m)
       ∙ ap (take (suc (length xs))) (sym (here p x xs s (omega arith)))
 
@@ -72,22 +59,22 @@ module _ (t : Setting) where
       ++ sealed_from t 0 ys (permuted t.rounds (with_domain 2 (with_bytes p (x ∷ xs) s)))
   unfolding sealed_from with_bytes
   sealed_full p x [] ys s h l =
-      let is : eqb (p + 1) t.block ≡ true = eq-eqb (p + 1) t.block (omega arith) in
-      ap (λ b. bit_xor (get_or s p 0) x ∷ sealed_from t (cond b 0 (p + 1)) ys
-      (cond b (permuted t.rounds (with_domain 2 (with_byte p x s))) (with_byte p x s))) is
+      let ge : ltb (p + 1) t.block ≡ false = le-ltb (p + 1) t.block (omega arith) in
+      ap (λ b. bit_xor (get_or s p 0) x ∷ sealed_from t (cond b (p + 1) 0) ys
+      (cond b (with_byte p x s) (permuted t.rounds (with_domain 2 (with_byte p x s))))) ge
       ∙ ap (λ w. take 1 w ++ sealed_from t 0 ys (permuted t.rounds (with_domain 2 (with_byte p x s))))
       (sym (here p x [] s (omega arith)))
   sealed_full p x (y ∷ xs) ys s h l =
-      let ne : eqb (p + 1) t.block ≡ false = ne_eqb (p + 1) t.block (λ e. omega arith) in
+      let lt : ltb (p + 1) t.block ≡ true = lt-ltb (p + 1) t.block (omega arith) in
       let m : (p + 1) + suc (length xs) ≤ length (with_byte p x s) = rw (length-set s p (bit_xor (get_or s p 0) x)) (omega arith) in
       let rest = sealed_from t 0 ys (permuted t.rounds (with_domain 2 (with_bytes p (x ∷ y ∷ xs) s))) in
-      ap (λ b. bit_xor (get_or s p 0) x ∷ sealed_from t (cond b 0 (p + 1)) ((y ∷ xs) ++ ys)
-      (cond b (permuted t.rounds (with_domain 2 (with_byte p x s))) (with_byte p x s))) ne
+      ap (λ b. bit_xor (get_or s p 0) x ∷ sealed_from t (cond b (p + 1) 0) ((y ∷ xs) ++ ys)
+      (cond b (with_byte p x s) (permuted t.rounds (with_domain 2 (with_byte p x s))))) lt
       ∙ ap (◌∷◌ (bit_xor (get_or s p 0) x)) (sealed_full (p + 1) y xs ys (with_byte p x s) (omega arith) m)
       ∙ ap (λ w. take (suc (suc (length xs))) w ++ rest) (sym (here p x (y ∷ xs) s (omega arith)))
 
   module _ (pos : 0 < t.block) (small : t.block ≤ 40) where
-    sealed_more : (xs ys s : List ℕ) → length xs ≡ t.block → length s ≡ 40
+    pub sealed_more : (xs ys s : List ℕ) → length xs ≡ t.block → length s ≡ 40
         → sealed_from t 0 (xs ++ ys) s ≡ take t.block (with_bytes 0 xs s) ++ sealed_from t 0 ys (absorbed t.rounds xs 2 s)
     sealed_more [] ys s h l = absurd (omega arith)
     sealed_more (x ∷ xs) ys s h l =
@@ -131,13 +118,13 @@ module _ (t : Setting) where
           ap (λ x. sealed_from t 0 x s) (sym (take-append-drop b xs))
           ∙ sealed_more (take b xs) (drop b xs) s (length-take-le b xs le) l
           ∙ ap (λ y. take b w ++ y) (sealed_cut n (drop b xs) s' rest (length-absorbed t.rounds (take b xs) 2 s l))
-          ∙ sym (ap (λ x. take x (take b w ++ off)) total ∙ take_past (take b w) off (length (drop b xs)))
+          ∙ sym (ap (λ x. take x (take b w ++ off)) total ∙ take-append-add (take b w) off (length (drop b xs)))
           ∙ ap₂ (λ x y. take (length xs) (take b (with_bytes 0 x s)
           ++ read_off b t.rounds (marked 2 4 (cut b (suc n) y)) (absorbed t.rounds x 2 s)))
           (sym (take-append-le b xs padding le)) (sym (drop-append-le b xs padding le))
 
     pub sealed_blocks : (xs s : List ℕ) → length s ≡ 40
-        → sealed_from t 0 xs s ≡ take (length xs) (read_off t.block t.rounds (text_pairs t.block xs) s)
+        → sealed_from t 0 xs s ≡ sealed_in t xs s
     sealed_blocks xs s l =
         let q : length xs ≡ length xs / t.block * t.block + length xs % t.block = sym (div-add-mod' (length xs) t.block) in
         let n : suc (length xs / t.block) ≡ length xs / t.block + 1 = omega arith in

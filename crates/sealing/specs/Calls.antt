@@ -4,8 +4,8 @@ use Rattle.std.specs.Prelude.{ℕ, Bool, cond, ◌&&◌, List, ◌++◌, length,
 use Rattle.std.specs.Str.{bytes_eq}
 use Rattle.refusal.specs.declared.Refusal.{Refusal}
 use Rattle.refusal.specs.declared.Refusal.TheVariants.{Measure, BrokenSeal}
-use Rattle.sealing.specs.Rates.{Setting}
-use Rattle.sealing.specs.Sealing.{sealed_bytes, opened_bytes, seal_of, digest_of}
+use Rattle.sponge.specs.Rates.{Setting}
+use Rattle.sponge.specs.Modes.{sealed_bytes, opened_bytes, seal_of, digest_of}
 
 abbrev pub Answer : Type 0
 Answer = Result (Unit {0}) Refusal
@@ -21,6 +21,13 @@ sealing t key nonce label text place seal state =
     cond (measured (length key) (length nonce) (length seal) (length text) (length place))
     (Ok tt, sealed_bytes t key nonce label text ++ drop (length text) place, seal_of t key nonce label text, replicate 40 0)
     (Err Measure, place, seal, state)
+
+-- once the measures passed: the answer, the text or zeros, the engine
+abbrev pub unsealing : Setting → List ℕ → List ℕ → List ℕ → List ℕ → List ℕ → Answer × List ℕ × List ℕ
+unsealing t key nonce label sealed seal =
+    cond (bytes_eq seal (seal_of t key nonce label (opened_bytes t key nonce label sealed)))
+    (Ok tt, opened_bytes t key nonce label sealed, replicate 40 0)
+    (Err BrokenSeal, replicate (length sealed) 0, replicate 40 0)
 
 -- open: the answer, the place of the text, the engine
 abbrev pub opening : Setting → List ℕ → List ℕ → List ℕ → List ℕ → List ℕ → List ℕ → List ℕ → Answer × List ℕ × List ℕ

@@ -2,8 +2,8 @@
 use Rattle.std.specs.Prelude.{◌≡◌, ℕ, List, length, take, Ok, Err}
 use Rattle.refusal.specs.declared.Refusal.TheVariants.{BrokenSeal}
 use Rattle.sealing.specs.Calls.{Answer}
-use Rattle.sealing.specs.Rates.{Setting}
-use Rattle.sealing.specs.Sealing.{sealed_bytes, seal_of}
+use Rattle.sponge.specs.Rates.{Setting}
+use Rattle.sponge.specs.Modes.{sealed_bytes, seal_of}
 
 -- the text seals to these bytes and this seal, under key, nonce and label
 abbrev pub Seals : Setting → List ℕ → List ℕ → List ℕ → List ℕ → List ℕ → List ℕ → Type 0

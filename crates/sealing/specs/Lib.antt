@@ -1,6 +1,3 @@
-pub mod Blocks
+pub mod Bytewise
 pub mod Calls
 pub mod Laws
-pub mod Rates
-pub mod Sealing
-pub mod Sponge

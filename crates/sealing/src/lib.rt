@@ -2,11 +2,10 @@
 
 #![tactic(auto)]
 
-mod rate;
-mod sponge;
+mod mode;
 
-pub use rate::{Rate, Rate64, Rate96};
-pub use sponge::absorb;
-pub use sponge::digest::digest;
-pub use sponge::open::open;
-pub use sponge::seal::seal;
+pub use mode::digest::digest;
+pub use mode::open::open;
+pub use mode::seal::seal;
+pub use mode::under::Under;
+pub use sponge::{Rate, Rate64, Rate96, absorb};

@@ -22,7 +22,7 @@ with_bytes-append p (x ∷ xs) ys s =
     let e : (p + 1) + length xs ≡ p + suc (length xs) = omega arith in
     with_bytes-append (p + 1) xs ys (with_byte p x s) ∙ ap (λ q. with_bytes q ys (with_bytes (p + 1) xs (with_byte p x s))) e
 
-with_zeros : (p n : ℕ) (s : List ℕ) → with_bytes p (replicate n 0) s ≡ s
+pub with_zeros : (p n : ℕ) (s : List ℕ) → with_bytes p (replicate n 0) s ≡ s
 unfolding with_bytes
 with_zeros p zero s = refl
 with_zeros p (suc n) s =

@@ -1,5 +1,5 @@
 -- The key's two blocks, as the code cuts them.
-use Rattle.std.proofs.Common.{◌≡◌, ℕ, ◌+◌, ◌-◌, ◌*◌, ◌%◌, ◌<◌, ◌≤◌, List, ◌∷◌, ◌++◌, length, take, drop, replicate, sym, refl, ap, ◌∙◌, ⊎_elim, mod-eq_of_lt, arith, length-append}
+use Rattle.std.proofs.Common.{◌≡◌, ℕ, ◌+◌, ◌-◌, ◌*◌, ◌%◌, ◌<◌, ◌≤◌, List, ◌∷◌, ◌++◌, length, take, drop, replicate, sym, refl, ap, ◌∙◌, ap₂, ⊎_elim, mod-eq_of_lt, arith, length-append}
 use native.Mathlib.Nat.{mod-eq-sub-mod}
 use Rattle.std.proofs.lemmas.List.{append_assoc, drop-append-le, length-drop, length-replicate, replicate-append-replicate, take-append-le}
 use Rattle.std.proofs.lemmas.Bool.{cases_lt}
@@ -23,8 +23,8 @@ spare_fits b low high =
 
 -- two parts of what begins with at least two blocks
 module _ (b : ℕ) (xs ys : List ℕ) (h : 2 * b ≤ length xs) where
-  first_part : take (b - 0) (drop 0 (xs ++ ys)) ≡ take b xs
-  first_part = let n : b - 0 ≡ b = omega arith in ap (λ k. take k (xs ++ ys)) n ∙ take-append-le b xs ys (omega arith)
+  first_part : take b (xs ++ ys) ≡ take b xs
+  first_part = take-append-le b xs ys (omega arith)
 
   second_part : take (2 * b - b) (drop b (xs ++ ys)) ≡ take b (drop b xs)
   second_part =
@@ -49,10 +49,10 @@ module _ (b : ℕ) (key : List ℕ) (l : length key ≡ 16) (low : 8 ≤ b) (hig
   room = rw exactly (simp (length-append, length-replicate) (omega (arith, (spare_fits b low high).1)))
 
   -- both blocks as the code cuts them
-  pub key_parts : (take (b - 0) (drop 0 (key ++ 1 ∷ replicate 7 0)) ≡ take b (padded b key))
+  key_parts : (take b (key ++ 1 ∷ replicate 7 0) ≡ take b (padded b key))
       × (take (2 * b - b) (drop b (key ++ 1 ∷ replicate 7 0)) ≡ take b (drop b (padded b key)))
   key_parts = (
-    ap (λ xs. take (b - 0) (drop 0 xs)) longer ∙ first_part b (padded b key) (replicate (7 - spare b) 0) room,
+    ap (take b) longer ∙ first_part b (padded b key) (replicate (7 - spare b) 0) room,
     ap (λ xs. take (2 * b - b) (drop b xs)) longer ∙ second_part b (padded b key) (replicate (7 - spare b) 0) room,
   )
 
@@ -62,3 +62,12 @@ pub keyed_both : (t : Setting) (d e : ℕ) (key s : List ℕ)
     ≡ absorbed 14 (take t.block (drop t.block (padded t.block key))) e (absorbed 14 (take t.block (padded t.block key)) d s)
 unfolding absorbed_all marked cut
 keyed_both t d e key s = refl
+
+-- so a state that both parts were absorbed into is the keyed one
+pub keyed_by_parts : (t : Setting) (b d e : ℕ) (key bytes s u v : List ℕ) → b ≡ t.block → 8 ≤ t.block → t.block ≤ 12 → length key ≡ 16
+    → bytes ≡ key ++ 1 ∷ replicate 7 0 → u ≡ absorbed 14 (take b bytes) d s
+    → v ≡ absorbed 14 (take (2 * b - b) (drop b bytes)) e u → v ≡ keyed t d e key s
+keyed_by_parts t b d e key bytes s u v h low high l k f g =
+    let parts = key_parts t.block key l low high in
+    g ∙ ap (λ w. absorbed 14 (take (2 * b - b) (drop b bytes)) e w) f
+    ∙ rw (k, h) (ap₂ (λ x y. absorbed 14 x e (absorbed 14 y d s)) parts.1 parts.0) ∙ sym (keyed_both t d e key s)

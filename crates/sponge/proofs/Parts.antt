@@ -1,7 +1,7 @@
 -- Lists with a part written anew, or read off.
-use Rattle.std.proofs.Common.{◌≡◌, ℕ, ◌+◌, ◌-◌, ◌<◌, ◌≤◌, ◌≢◌, List, [], ◌∷◌, ◌++◌, length, get_or, take, drop, set, sym, ap, ◌∙◌, ap₂, arith, length-append, length-drop, below_more}
+use Rattle.std.proofs.Common.{◌≡◌, ℕ, ◌+◌, ◌-◌, ◌<◌, ◌≤◌, List, [], ◌∷◌, ◌++◌, length, get_or, take, drop, set, sym, ap, ◌∙◌, ap₂, arith, length-append, length-drop}
 use borrow.Rule.Slice.PartMut.{put_mid}
-use Rattle.std.proofs.lemmas.List.{append_assoc, append-nil, drop_all, drop_at, drop-drop, drop-set-lt, ext_get_or, get_or-drop, get_or-set_other, get_or-set_same, get_or-take, length-take, take-append-drop, take_at, take_more_set}
+use Rattle.std.proofs.lemmas.List.{append_assoc, append-nil, drop_all, drop_at, drop-drop, ext_get_or, get_or-drop, get_or-take, length-take, take_all, take_at, take_more_set}
 use Rattle.sponge.specs.Stream.{with_part}
 
 pub put_part : (a : ℕ) (xs s ys : List ℕ) → ys ≡ xs → put_mid a ((a + length xs) - a) s ys ≡ with_part a xs s
@@ -26,30 +26,18 @@ three_parts k n v z hk hn hv hz =
     ∙ ap (λ t. (k ++ n) ++ t) (append-nil v) ∙ append_assoc k n v
 
 -- a row of bytes read off a list one by one
-pub read_off : (n at : ℕ) (s xs : List ℕ) → at + n ≤ length s → length xs ≡ n
+pub part_read : (n at : ℕ) (s xs : List ℕ) → at + n ≤ length s → length xs ≡ n
     → ((k : ℕ) → k < n → get_or xs k 0 ≡ get_or s (at + k) 0) → xs ≡ take n (drop at s)
-read_off n at s xs hs hx h =
+part_read n at s xs hs hx h =
     let l : length xs ≡ length (take n (drop at s)) = simp (length-take, length-drop) (omega arith) in
     ext_get_or 0 xs (take n (drop at s)) l
     (λ i m. let b : i < n = omega arith in h i b ∙ sym (get_or-take n (drop at s) i 0 b ∙ get_or-drop at s i 0))
 
-pub read_more : (at i b : ℕ) (s xs : List ℕ) → i < length xs → b ≡ get_or s (at + i) 0
-    → ((k : ℕ) → k < i → get_or xs k 0 ≡ get_or s (at + k) 0) → (k : ℕ) → k < i + 1 → get_or (set xs i b) k 0 ≡ get_or s (at + k) 0
-read_more at i b s xs h e below =
-    below_more (λ k. get_or (set xs i b) k 0 ≡ get_or s (at + k) 0) i
-    (λ k l. let ne : k ≢ i = omega arith in get_or-set_other xs i k b 0 ne ∙ below k l) (get_or-set_same xs i b 0 h ∙ e)
-
 -- a list written from its front: one byte more, and the whole
-module _ (i : ℕ) (out old : List ℕ) where
+module _ (i : ℕ) (out : List ℕ) where
   pub written_more : (y : ℕ) (rest : List ℕ) → i < length out → take (i + 1) (set out i y) ++ rest ≡ take i out ++ (y ∷ rest)
   written_more y rest h = rw (take_more_set out i y h) (append_assoc (take i out) (y ∷ []) rest)
 
-  pub tail_more : (y : ℕ) → drop i out ≡ drop i old → drop (i + 1) (set out i y) ≡ drop (i + 1) old
-  tail_more y e =
-      drop-set-lt (i + 1) out i y (omega arith) ∙ sym (drop-drop 1 i out) ∙ ap (drop 1) e ∙ drop-drop 1 i old
-
-  pub written_all : (n : ℕ) (rest done : List ℕ) → i ≡ n → rest ≡ [] → take i out ++ rest ≡ done → drop i out ≡ drop i old
-      → out ≡ done ++ drop n old
-  written_all n rest done e r w t =
-      let f : take i out ≡ done = sym (append-nil (take i out)) ∙ ap (λ x. take i out ++ x) (sym r) ∙ w in
-      sym (take-append-drop i out) ∙ ap₂ ◌++◌ f (t ∙ ap (λ k. drop k old) e)
+  pub written_whole : (rest done : List ℕ) → length out ≤ i → rest ≡ [] → take i out ++ rest ≡ done → out ≡ done
+  written_whole rest done h r w =
+      sym (append-nil out) ∙ ap₂ ◌++◌ (sym (take_all i out h)) (sym r) ∙ w

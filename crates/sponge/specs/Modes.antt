@@ -1,7 +1,8 @@
 -- Sealing, opening and digest, by blocks. docs/sycon.md says the same in prose.
 use Rattle.std.specs.Prelude.{ℕ, zero, suc, ◌/◌, List, [], ◌∷◌, ◌++◌, length, take, drop, replicate}
+use Rattle.std.proofs.Common.{refl, arith}
 use Rattle.sycon.specs.Permutation.{permuted}
-use Rattle.sponge.specs.Rates.{Setting}
+use Rattle.sponge.specs.Rates.{Setting, Sets}
 use Rattle.sponge.specs.Blocks.{Pair, absorbed, absorbed_all, blocks, cut, marked, padded, read_off, with_bytes}
 
 -- the key's two blocks: its halves at 8 bytes, its padded form at 12
@@ -70,6 +71,9 @@ opened_bytes t key nonce label sealed = opened_in t sealed (ready t key nonce la
 -- to 23, zeros around it; four times the first 8 bytes are read, with 14 rounds between
 abbrev pub hashing : Setting
 hashing = record { block = 8; rounds = 14; vector = 0xC5 ∷ 0x63 ∷ 0x6E ∷ 0x2C ∷ 0xD4 ∷ 0x80 ∷ 0x0A ∷ 0x1C ∷ [] }
+
+pub hashing_sets : Sets hashing 8 14 0x1C0A80D42C6E63C5
+hashing_sets = record { block = refl; rounds = refl; vector = refl; low = omega arith; high = omega arith }
 
 abbrev pub digest_start : List ℕ
 digest_start = replicate 16 0 ++ (hashing.vector ++ replicate 16 0)

@@ -1,11 +1,12 @@
 //! The sponge over any engine: blocks absorbed with a domain.
 
-ghost use Rattle.std.specs.Prelude.{◌≡◌, ◌+◌, ◌≤◌, length};
+ghost use Rattle.std.specs.Prelude.{◌≡◌, ◌+◌, ◌≤◌, drop, length, take};
 ghost use Rattle.sponge.specs.Blocks.{absorbed, domain_byte_of, with_byte, with_bytes, with_domain};
 ghost use Rattle.sponge.specs.Stream.{with_part};
 ghost use Rattle.sycon.specs.Permutation.{permuted};
 
 use super::rate::Rate;
+use std::array;
 use sycon::engine::Engine;
 
 pub mod keyed;
@@ -58,7 +59,15 @@ fn end_block<R: Rate, E: Engine>(engine: &mut E, domain: u8)
         ≡ permuted R.setting.rounds (with_domain domain (E.state engine.old)) }
 {
     add_domain(engine, domain);
-    engine.turn(R::round_count());
+    engine.turn(R::ROUNDS);
+}
+
+// Bytes of the state, from place `at` on.
+fn read<const N: usize, E: Engine>(engine: &E, at: usize) -> [u8; N]
+    requires { at + N ≤ 40 }
+    ensures { result ≡ take N (drop at (E.state engine.now)) }
+{
+    array::from_fn(|k| engine.byte(at + k))
 }
 
 // Writes `bytes` from place `at` on.

@@ -1,19 +1,17 @@
 //! The start and the end of a message that is sealed under a key.
 
 ghost use Rattle.sponge.specs.Modes.{keyed as under_key, labelled, seal_in, started};
-ghost use Rattle.std.specs.Prelude.{◌≡◌, ◌∷◌, ◌++◌, take, drop, replicate};
+ghost use Rattle.std.specs.Prelude.{◌≡◌, ◌∷◌, ◌++◌, replicate};
 
 use super::super::rate::Rate;
 use super::stream::absorb_message;
-use sycon::engine;
 use sycon::engine::{Engine, StateBytes};
 
 /// Begins under a key and a nonce: these and the initial vector are loaded, and the key blocks absorbed.
 pub fn start<R: Rate, E: Engine>(engine: &mut E, key: &[u8; 16], nonce: &[u8; 16])
     ensures { E.state engine.new ≡ started R.setting key.now nonce.now }
 {
-    let vector = R::vector();
-    engine.load(&start_bytes(key, nonce, &vector));
+    engine.load(&start_bytes(key, nonce, &R::INITIAL_VECTOR.to_le_bytes()));
     engine.turn(14);
     absorb_key::<R, E>(engine, key, 0, 1);
 }
@@ -33,7 +31,7 @@ pub fn finish<R: Rate, E: Engine>(engine: &mut E, key: &[u8; 16]) -> [u8; 16]
     ensures clear { E.state engine.new ≡ replicate 40 0 }
 {
     absorb_key::<R, E>(engine, key, 4, 4);
-    let tag = middle(&engine::bytes(engine));
+    let tag = super::read::<16, E>(engine, 16);
     engine.load(&[0; 40]);
     tag
 }
@@ -44,8 +42,8 @@ fn absorb_key<R: Rate, E: Engine>(engine: &mut E, key: &[u8; 16], first: u8, sec
         ≡ under_key R.setting first second key.now (E.state engine.old) }
 {
     let padded = padded_key(key);
-    let block = R::block_len();
-    super::absorb(engine, &padded[0..block], first, 14);
+    let block = R::BLOCK;
+    super::absorb(engine, &padded[..block], first, 14);
     super::absorb(engine, &padded[block..2 * block], second, 14);
 }
 
@@ -68,13 +66,4 @@ fn start_bytes(key: &[u8; 16], nonce: &[u8; 16], vector: &[u8; 8]) -> StateBytes
     super::put(&mut bytes, 16, nonce);
     super::put(&mut bytes, 32, vector);
     bytes
-}
-
-// Bytes 16 to 31 of a state.
-fn middle(bytes: &StateBytes) -> [u8; 16]
-    ensures { result ≡ take 16 (drop 16 bytes.now) }
-{
-    let mut part = [0u8; 16];
-    part.copy_from_slice(&bytes[16..32]);
-    part
 }

@@ -14,7 +14,7 @@ pub fn feed<R: Rate, E: Engine>(engine: &mut E, place: usize, x: u8, domain: u8)
     ensures state { E.state engine.new ≡ fed R.setting domain place x (E.state engine.old) }
 {
     super::add_byte(engine, place, x);
-    if place < R::block_len() - 1 {
+    if place < R::BLOCK - 1 {
         place + 1
     } else {
         super::end_block::<R, E>(engine, domain);

@@ -7,7 +7,7 @@ pub returns : goal.returns
 unfolding seal_64 sealed_64
 returns g c =
     let e =
-    c.seal.ensures
+    c.seal.ensures.outcome
     ∙ sealed_whole c.args.key.now c.args.nonce.now c.args.label.now c.args.text.now (replicate 39 0)
     (replicate 16 0) (g.E.Engine.state c.args.engine.now) c.told-key c.told-nonce refl c.told-text refl in
     record { bytes = ap (λ o. o.1) e; tag = ap (λ o. o.2) e; clear = ap (λ o. o.3) e }

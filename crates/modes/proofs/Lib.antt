@@ -1,4 +1,0 @@
-pub mod Exactly
-pub mod Inverse
-pub mod OpenedBlocks
-pub mod SealedBlocks

@@ -1,0 +1,11 @@
+use Rattle.sponge.specs.Modes.{label_pairs, started, text_pairs}
+use Rattle.sponge.proofs.Folds.{absorbed-append}
+use Rattle.sealing.proofs.mode.seal.seal_in_place.Goals as goal
+
+pub returns-clause-tag : goal.returns-clause-tag
+returns-clause-tag g c =
+    let t = g.R.Rate.setting in
+    let k = c.args.keyed in
+    let e =
+    absorbed-append t.rounds (label_pairs t.block k.label.now) (text_pairs t.block c.args.bytes.now) (started t k.key.now k.nonce.now) in
+    cc

@@ -3,12 +3,15 @@
 #![tactic(auto)]
 
 mod recorder;
+mod shown;
 
 use recorder::{Event, Recorder};
 use refusal::Refusal;
-use sealing::{Rate64, open, seal};
+use sealing::{Rate64, Under, open, seal};
+use shown::{Braille, Hex};
 use sliced::Sliced;
-use std::io;
+use std::{fmt, io};
+use sycon::engine::StateBytes;
 
 type Engine = Recorder<Sliced>;
 
@@ -20,27 +23,25 @@ const LABEL: &[u8; 28] = b"BV1,207,1,3,25,40,48,ATLAS 2";
 
 const TEXT: &[u8; 47] = b",! ,NOR? ,SEA\nDEP?S IN METRES\n#AJ #BE #EJ #AJJ\n";
 
+const UNDER: Under<'static> = Under {
+    key: KEY,
+    nonce: NONCE,
+    label: LABEL,
+};
+
 fn main(rt: HostRuntime) -> io::Result<()> {
     let mut engine = Recorder::new(Sliced::new());
-    let mut sealed = [0u8; 47];
+    let mut sealed = [0u8; TEXT.len()];
     let mut tag = [0u8; 16];
     println!(rt; "A text is sealed at 64 bits.")?;
-    hex(&rt, "key", KEY)?;
-    hex(&rt, "nonce of school 207, run 5", NONCE)?;
-    words(&rt, "label", LABEL)?;
-    words(&rt, "text", TEXT)?;
-    let answer = seal::<Rate64, Engine>(
-        &mut engine,
-        KEY,
-        NONCE,
-        LABEL,
-        TEXT,
-        &mut sealed,
-        &mut tag,
-    );
+    println!(rt; "key: {}", Hex(KEY))?;
+    println!(rt; "nonce of school 207, run 5: {}", Hex(NONCE))?;
+    println!(rt; "label: {}", Braille(LABEL))?;
+    println!(rt; "text: {}", Braille(TEXT))?;
+    let answer = seal::<Rate64, Engine>(&mut engine, UNDER, TEXT, &mut sealed, &mut tag);
     events(&rt, &mut engine)?;
-    hex(&rt, "sealed bytes", &sealed)?;
-    hex(&rt, "seal", &tag)?;
+    println!(rt; "sealed bytes: {}", Hex(&sealed))?;
+    println!(rt; "seal: {}", Hex(&tag))?;
     report(&rt, answer)?;
 
     println!(rt; "")?;
@@ -58,20 +59,20 @@ fn main(rt: HostRuntime) -> io::Result<()> {
 
 fn opening(rt: &HostRuntime, engine: &mut Engine, sealed: &[u8], tag: &[u8]) -> io::Result<()> {
     // what stood in the place before
-    let mut text = [b'='; 47];
-    let answer = open::<Rate64, Engine>(engine, KEY, NONCE, LABEL, sealed, tag, &mut text);
+    let mut text = [b'='; TEXT.len()];
+    let answer = open::<Rate64, Engine>(engine, UNDER, sealed, tag, &mut text);
     events(rt, engine)?;
-    let compared = if answer.is_ok() {
-        "it is the one given"
-    } else {
-        "it is not the one given"
-    };
-    println!(rt; "seal compared: {compared}")?;
-    report(rt, answer)?;
-    if answer.is_ok() {
-        words(rt, "text", &text)
-    } else {
-        hex(rt, "text's place", &text)
+    match answer {
+        Ok(()) => {
+            println!(rt; "seal compared: it is the one given")?;
+            report(rt, answer)?;
+            println!(rt; "text: {}", Braille(&text))
+        }
+        Err(_) => {
+            println!(rt; "seal compared: it is not the one given")?;
+            report(rt, answer)?;
+            println!(rt; "text's place: {}", Hex(&text))
+        }
     }
 }
 
@@ -80,92 +81,80 @@ fn report(rt: &HostRuntime, answer: Result<(), Refusal>) -> io::Result<()> {
         Ok(()) => println!(rt; "answer: done"),
         Err(refusal) => {
             let number = refusal.number();
-            let word = refusal.word();
-            println!(rt; "answer: refused, {number} {word}")
+            println!(rt; "answer: refused, {number} {refusal}")
         }
     }
 }
 
 // What the engine was given since the last time.
 fn events(rt: &HostRuntime, engine: &mut Engine) -> io::Result<()> {
-    for i in 0..recorder::ROOM {
-        event(rt, part(i), engine.event(i))?;
+    for (i, event) in engine.events().iter().enumerate() {
+        print_event(rt, Part::at(i), event)?;
     }
     engine.forget();
     Ok(())
 }
 
-// What the event at a place is about: loading, 14 rounds, two key blocks, the label, the text, two key blocks.
-fn part(i: usize) -> &'static str {
-    let label_end = 4 + LABEL.len() / 8 + 1;
-    let text_end = label_end + TEXT.len() / 8 + 1;
-    if 4 <= i && i < label_end {
-        "label"
-    } else if label_end <= i && i < text_end {
-        "text"
-    } else {
-        "key"
+/// What the permutation is given a part of.
+#[derive(Clone, Copy)]
+enum Part {
+    Key,
+    Label,
+    Text,
+}
+
+// How many events come before the first of the label: loading, 14 rounds, two key blocks.
+const LABEL_AT: usize = 4;
+
+const TEXT_AT: usize = LABEL_AT + LABEL.len() / 8 + 1;
+
+const TEXT_END: usize = TEXT_AT + TEXT.len() / 8 + 1;
+
+impl Part {
+    // What the event at a place is about; behind the text come two key blocks.
+    fn at(i: usize) -> Part {
+        match i {
+            LABEL_AT..TEXT_AT => Part::Label,
+            TEXT_AT..TEXT_END => Part::Text,
+            _ => Part::Key,
+        }
     }
 }
 
-fn event(rt: &HostRuntime, part: &str, event: Event) -> io::Result<()> {
+impl fmt::Display for Part {
+    fn fmt<W: fmt::Write>(&self, f: &mut fmt::Formatter<W>) -> fmt::Result {
+        f.write_str(match self {
+            Part::Key => "key",
+            Part::Label => "label",
+            Part::Text => "text",
+        })
+    }
+}
+
+fn print_event(rt: &HostRuntime, part: Part, event: &Event) -> io::Result<()> {
     match event {
-        Event::Nothing => Ok(()),
         Event::Loaded(bytes) => loaded(rt, bytes),
         Event::Permuted {
             block,
             domain,
             rounds,
-        } => permuted(rt, part, block, domain, rounds),
+        } if *block == [0; 8] && *domain == 0 => println!(rt; "{rounds} rounds"),
+        Event::Permuted {
+            block,
+            domain,
+            rounds,
+        } => println!(rt;
+            "{part} block absorbed: {}, domain {domain}, {rounds} rounds",
+            Hex(block)
+        ),
     }
 }
 
-fn loaded(rt: &HostRuntime, bytes: [u8; 40]) -> io::Result<()> {
-    if bytes == [0; 40] {
+fn loaded(rt: &HostRuntime, bytes: &StateBytes) -> io::Result<()> {
+    if *bytes == [0; 40] {
         return println!(rt; "engine cleared");
     }
-    hex(rt, "key loaded", &bytes[0..16])?;
-    hex(rt, "nonce loaded", &bytes[16..32])?;
-    hex(rt, "initial vector loaded", &bytes[32..40])
-}
-
-fn permuted(
-    rt: &HostRuntime,
-    part: &str,
-    block: [u8; 8],
-    domain: u8,
-    rounds: usize,
-) -> io::Result<()> {
-    if block == [0; 8] && domain == 0 {
-        return println!(rt; "{rounds} rounds");
-    }
-    print!(rt; "{part} block absorbed: ")?;
-    digits(rt, &block)?;
-    println!(rt; ", domain {domain}, {rounds} rounds")
-}
-
-fn words(rt: &HostRuntime, name: &str, text: &[u8]) -> io::Result<()> {
-    print!(rt; "{name}: ")?;
-    for b in text {
-        if *b == b'\n' {
-            print!(rt; "|")?;
-        } else {
-            let c = char::from(*b);
-            print!(rt; "{c}")?;
-        }
-    }
-    println!(rt; "")
-}
-
-fn hex(rt: &HostRuntime, name: &str, bytes: &[u8]) -> io::Result<()> {
-    print!(rt; "{name}: ")?;
-    digits(rt, bytes)?;
-    println!(rt; "")
-}
-
-fn digits(rt: &HostRuntime, bytes: &[u8]) -> io::Result<()> {
-    for b in bytes {
-        print!(rt; "{b:02X}")?;
-    }
-    Ok(())
+    println!(rt; "key loaded: {}", Hex(&bytes[0..16]))?;
+    println!(rt; "nonce loaded: {}", Hex(&bytes[16..32]))?;
+    println!(rt; "initial vector loaded: {}", Hex(&bytes[32..40]))
 }

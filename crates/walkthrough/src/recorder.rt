@@ -1,22 +1,32 @@
 //! An engine that passes each call on to another, and notes what the permutation was given.
 
-ghost use Rattle.std.specs.Prelude.{◌≡◌, replicate, if◌then◌else◌, nat_lt, slice_index_or};
+ghost use Rattle.std.specs.Prelude.{◌≡◌, [], ◌∷◌, ◌++◌, if◌then◌else◌, nat_lt};
 ghost use Rattle.std.proofs.Common.{rules};
+ghost use Rattle.arrayvec.specs.ArrayVec.{array_vec_len};
 
-use sycon::engine::Engine;
+use arrayvec::ArrayVec;
+use std::array;
+use sycon::engine::{Engine, StateBytes};
 
+/// How many events a recorder has room for.
 pub const ROOM: usize = 32;
 
 /// What was done to the state since it was last loaded or permuted.
 #[derive(Clone, Copy)]
 pub enum Event {
-    Nothing,
-    Loaded([u8; 40]),
+    Loaded(StateBytes),
     Permuted {
         block: [u8; 8],
         domain: u8,
         rounds: usize,
     },
+}
+
+// An `ArrayVec` keeps it in the places that are not used.
+impl Default for Event {
+    fn default() -> Event {
+        Event::Loaded([0; 40])
+    }
 }
 
 /// Another engine, the first bytes and the last of its state as the last event left them, and the events.
@@ -25,8 +35,7 @@ pub struct Recorder<E> {
     engine: E,
     front: [u8; 8],
     last: u8,
-    events: [Event; ROOM],
-    count: usize,
+    events: ArrayVec<Event, ROOM>,
 }
 
 impl<E: Engine> Engine for Recorder<E> {
@@ -34,7 +43,7 @@ impl<E: Engine> Engine for Recorder<E> {
 
     ghost whole = { Prim.search rules };
 
-    fn load(&mut self, bytes: &[u8; 40]) {
+    fn load(&mut self, bytes: &StateBytes) {
         self.engine.load(bytes);
         self.note(Event::Loaded(*bytes));
     }
@@ -57,71 +66,52 @@ impl<E: Engine> Engine for Recorder<E> {
 impl<E: Engine> Recorder<E> {
     pub fn new(engine: E) -> Self
         ensures engine { result.engine ≡ engine }
-        ensures events { result.events ≡ replicate 32 Event.Nothing }
+        ensures events { result.events.items ≡ [] }
     {
         Recorder {
             engine,
             front: [0; 8],
             last: 0,
-            events: [Event::Nothing; ROOM],
-            count: 0,
+            events: ArrayVec::new(),
         }
     }
 
-    /// An event since the last `forget`, the oldest at 0; past `ROOM` none is kept.
-    pub fn event(&self, i: usize) -> Event
-        ensures { result ≡ (if nat_lt i 32 then slice_index_or self.now.events i Event.Nothing else Event.Nothing) }
+    /// The events since the last `forget`, the oldest first; past `ROOM` none is kept.
+    pub fn events(&self) -> &[Event]
+        ensures { result.now ≡ self.now.events.items }
     {
-        if i >= ROOM {
-            return Event::Nothing;
-        }
-        self.events[i]
+        self.events.as_slice()
     }
 
     pub fn forget(&mut self)
         ensures engine { self.new.engine ≡ self.old.engine }
-        ensures events { self.new.events ≡ replicate 32 Event.Nothing }
+        ensures events { self.new.events.items ≡ [] }
     {
-        self.events = [Event::Nothing; ROOM];
-        self.count = 0;
+        self.events.clear();
     }
 
     // What changed since the last event: a block in the first bytes, and a domain in the last.
     fn permuted(&self, rounds: usize) -> Event {
-        let mut block = front_bytes(&self.engine);
-        for k in 0..8 {
-            block[k] ^= self.front[k];
-        }
-        let domain = domain_of(self.engine.byte(39) ^ self.last);
         Event::Permuted {
-            block,
-            domain,
+            block: array::from_fn(|k| self.engine.byte(k) ^ self.front[k]),
+            domain: domain_of(self.engine.byte(39) ^ self.last),
             rounds,
         }
     }
 
     fn note(&mut self, event: Event)
-        ensures { self.new.engine ≡ self.old.engine }
+        ensures engine { self.new.engine ≡ self.old.engine }
+        ensures events { self.new.events.items
+            ≡ (if nat_lt (array_vec_len self.old.events) 32
+            then self.old.events.items ++ event ∷ [] else self.old.events.items) }
     {
-        self.front = front_bytes(&self.engine);
+        self.front = array::from_fn(|k| self.engine.byte(k));
         self.last = self.engine.byte(39);
-        let at = self.count;
-        if at < ROOM {
-            self.events[at] = event;
-            self.count = at + 1;
-        }
+        let _ = self.events.try_push(event);
     }
-}
-
-fn front_bytes<E: Engine>(engine: &E) -> [u8; 8] {
-    let mut front = [0u8; 8];
-    for k in 0..8 {
-        front[k] = engine.byte(k);
-    }
-    front
 }
 
 // The domain whose three bits stand at the end of this byte, the unit last.
 fn domain_of(byte: u8) -> u8 {
-    byte / 128 + byte / 64 % 2 * 2 + byte / 32 % 2 * 4
+    byte.reverse_bits() & 7
 }

@@ -2,11 +2,13 @@
 
 #![tactic(auto)]
 
-use sealing::{Rate64, Rate96, absorb, digest, seal};
+use hex::encode_upper;
+use refusal::Refusal;
+use sealing::{Rate, Rate64, Rate96, Under, absorb, digest, seal};
 use sliced::Sliced;
-use std::io;
+use std::{array, fmt, io};
 use sycon::engine;
-use sycon::engine::Engine;
+use sycon::engine::{Engine, StateBytes};
 
 // the key is the nonce too
 const KEY: [u8; 16] = [0, 1, 2, 3, 4, 5, 6, 7, 8, 9, 10, 11, 12, 13, 14, 15];
@@ -18,197 +20,160 @@ const TEXT: [u8; 39] = *b"To authenticate, or not to authenticate";
 const PERMUTED: &str =
     "31DED502D85527B07357D8E2BFA2AA39DED003A4D911131FBC9A5BA15618C464F23AD59EC3F5F72B";
 
-const SEALED_64: &str =
-    "0535E98A36A013905C884ED69C752D05F81C3D57EA7DA62C5857B66824E8361A8C0B2FC9691B74";
+const AT_64_BITS: Published = Published {
+    sealed: "0535E98A36A013905C884ED69C752D05F81C3D57EA7DA62C5857B66824E8361A8C0B2FC9691B74",
+    seal: "D744AB39F5233F2FD6357A9BE330D9A2",
+};
 
-const SEAL_64: &str = "D744AB39F5233F2FD6357A9BE330D9A2";
-
-const SEALED_96: &str =
-    "164F4F0463781EF41C3A512264B74C3B06A53BD345B8EB8E3B8D8F0930AC920591B16C4A3B5DF9";
-
-const SEAL_96: &str = "06F990758FE75620A11210C7095EBECD";
+const AT_96_BITS: Published = Published {
+    sealed: "164F4F0463781EF41C3A512264B74C3B06A53BD345B8EB8E3B8D8F0930AC920591B16C4A3B5DF9",
+    seal: "06F990758FE75620A11210C7095EBECD",
+};
 
 const DIGEST: &str = "95088252C915EF0B5013BEA358ACEB366096D2E179603ED49D1BF60A9BF52956";
+
+// What was published of the sealed text.
+struct Published {
+    sealed: &'static str,
+    seal: &'static str,
+}
+
+// What was computed of it.
+#[derive(Clone, Copy)]
+struct Sealed {
+    bytes: [u8; TEXT.len()],
+    tag: [u8; 16],
+}
 
 fn main(rt: HostRuntime) -> io::Result<()> {
     let mut engine = Sliced::new();
     permutation(&rt, &mut engine)?;
-    at_64_bits(&rt, &mut engine)?;
-    at_96_bits(&rt, &mut engine)?;
-    at_96_bits_with_slips(&rt, &mut engine)?;
+    at_rate::<Rate64>(&rt, &mut engine, "64 bits", &AT_64_BITS)?;
+    at_rate::<Rate96>(&rt, &mut engine, "96 bits, by the rules", &AT_96_BITS)?;
+    Sealed::with_slips(&mut engine).compare(&rt, "96 bits, with two slips", &AT_96_BITS)?;
     digests(&rt, &mut engine)
 }
 
 fn permutation(rt: &HostRuntime, engine: &mut Sliced) -> io::Result<()> {
     engine.load(&example());
     engine.turn(14);
-    compare(
-        rt,
-        "14 rounds on 20 bytes 00 and 20 bytes AA",
-        &engine::bytes(engine),
-        PERMUTED,
-    )
+    let name = "14 rounds on 20 bytes 00 and 20 bytes AA";
+    compare(rt, name, &engine::bytes(engine), PERMUTED)
 }
 
-fn example() -> [u8; 40] {
-    let mut state = [0u8; 40];
-    for k in 20..40 {
-        state[k] = 0xAA;
+fn example() -> StateBytes {
+    array::from_fn(|k| if k < 20 { 0 } else { 0xAA })
+}
+
+fn at_rate<R: Rate>(
+    rt: &HostRuntime,
+    engine: &mut Sliced,
+    name: &str,
+    published: &Published,
+) -> io::Result<()> {
+    match Sealed::by_the_rules::<R>(engine) {
+        Ok(sealed) => sealed.compare(rt, name, published),
+        Err(_) => println!(rt; "{name}: refused"),
     }
-    state
 }
 
-fn at_64_bits(rt: &HostRuntime, engine: &mut Sliced) -> io::Result<()> {
-    let mut sealed = [0u8; 39];
-    let mut tag = [0u8; 16];
-    let answer = seal::<Rate64, Sliced>(engine, &KEY, &KEY, &LABEL, &TEXT, &mut sealed, &mut tag);
-    if answer.is_err() {
-        return println!(rt; "64 bits: refused");
+impl Sealed {
+    fn by_the_rules<R: Rate>(engine: &mut Sliced) -> Result<Sealed, Refusal> {
+        let under = Under {
+            key: &KEY,
+            nonce: &KEY,
+            label: &LABEL,
+        };
+        let mut bytes = [0; TEXT.len()];
+        let mut tag = [0; 16];
+        seal::<R, Sliced>(engine, under, &TEXT, &mut bytes, &mut tag)?;
+        Ok(Sealed { bytes, tag })
     }
-    compare(rt, "64 bits, sealed bytes", &sealed, SEALED_64)?;
-    compare(rt, "64 bits, seal", &tag, SEAL_64)
-}
 
-fn at_96_bits(rt: &HostRuntime, engine: &mut Sliced) -> io::Result<()> {
-    let mut sealed = [0u8; 39];
-    let mut tag = [0u8; 16];
-    let answer = seal::<Rate96, Sliced>(engine, &KEY, &KEY, &LABEL, &TEXT, &mut sealed, &mut tag);
-    if answer.is_err() {
-        return println!(rt; "96 bits: refused");
+    // The last label block repeats bytes 8 to 11 of the label instead of taking 12 to 15, and in finishing the 1 bit of the
+    // second key block's padding falls on its first byte.
+    fn with_slips(engine: &mut Sliced) -> Sealed {
+        let [.., a, b, c, d] = KEY;
+        let mut bytes = [0; TEXT.len()];
+        engine.load(&loaded());
+        engine.turn(14);
+        absorb(engine, &KEY[..12], 0, 14);
+        absorb(engine, &padded(&[a, b, c, d]), 1, 14);
+        absorb(engine, &LABEL[..12], 1, 9);
+        absorb(engine, &padded(&LABEL[8..12]), 2, 9);
+        for (text, sealed) in TEXT.chunks(12).zip(bytes.chunks_mut(12)) {
+            let domain = if text.len() == 12 { 2 } else { 4 };
+            seal_block(engine, text, sealed);
+            absorb(engine, &padded(text), domain, 9);
+        }
+        absorb(engine, &KEY[..12], 4, 14);
+        absorb(engine, &[a ^ 1, b, c, d], 4, 14);
+        Sealed {
+            bytes,
+            tag: array::from_fn(|k| engine.byte(16 + k)),
+        }
     }
-    compare(
-        rt,
-        "96 bits, by the rules, sealed bytes",
-        &sealed,
-        SEALED_96,
-    )?;
-    compare(rt, "96 bits, by the rules, seal", &tag, SEAL_96)
-}
 
-fn at_96_bits_with_slips(rt: &HostRuntime, engine: &mut Sliced) -> io::Result<()> {
-    let mut sealed = [0u8; 39];
-    let mut tag = [0u8; 16];
-    seal_with_slips(engine, &mut sealed, &mut tag);
-    compare(
-        rt,
-        "96 bits, with two slips, sealed bytes",
-        &sealed,
-        SEALED_96,
-    )?;
-    compare(rt, "96 bits, with two slips, seal", &tag, SEAL_96)
-}
-
-// The last label block repeats bytes 8 to 11 of the label instead of taking 12 to 15, and in finishing the 1 bit of the
-// second key block's padding falls on its first byte.
-fn seal_with_slips(engine: &mut Sliced, sealed: &mut [u8; 39], tag: &mut [u8; 16]) {
-    let key = KEY;
-    let label = LABEL;
-    let text = TEXT;
-    engine.load(&loaded());
-    engine.turn(14);
-    absorb(engine, &key[0..12], 0, 14);
-    absorb(engine, &padded(&key[12..16]), 1, 14);
-    absorb(engine, &label[0..12], 1, 9);
-    absorb(engine, &padded(&label[8..12]), 2, 9);
-    for i in 0..3 {
-        seal_block(engine, 12 * i, sealed);
-        absorb(engine, &text[12 * i..12 * i + 12], 2, 9);
-    }
-    seal_block(engine, 36, sealed);
-    absorb(engine, &padded(&text[36..39]), 4, 9);
-    absorb(engine, &key[0..12], 4, 14);
-    absorb(engine, &[key[12] ^ 1, key[13], key[14], key[15]], 4, 14);
-    for k in 0..16 {
-        tag[k] = engine.byte(16 + k);
+    fn compare(&self, rt: &HostRuntime, name: &str, published: &Published) -> io::Result<()> {
+        compare(
+            rt,
+            format_args!("{name}, sealed bytes"),
+            &self.bytes,
+            published.sealed,
+        )?;
+        compare(rt, format_args!("{name}, seal"), &self.tag, published.seal)
     }
 }
 
 // Key, nonce and the initial vector of 96 bits.
-fn loaded() -> [u8; 40] {
-    let mut bytes = [0u8; 40];
-    let vector = 0x5980A92AFC5D9D2Cu64.to_le_bytes();
-    for k in 0..16 {
-        bytes[k] = KEY[k];
-        bytes[16 + k] = KEY[k];
-    }
-    for k in 0..8 {
-        bytes[32 + k] = vector[k];
-    }
+fn loaded() -> StateBytes {
+    let mut bytes = [0; 40];
+    bytes[..16].copy_from_slice(&KEY);
+    bytes[16..32].copy_from_slice(&KEY);
+    bytes[32..].copy_from_slice(&0x5980A92AFC5D9D2Cu64.to_le_bytes());
     bytes
 }
 
 // At most 12 bytes, with the padding behind them where they leave room.
 fn padded(bytes: &[u8]) -> [u8; 12] {
-    let mut block = [0u8; 12];
-    for k in 0..12 {
-        if k < bytes.len() {
-            block[k] = bytes[k];
-        } else if k == bytes.len() {
-            block[k] = 1;
-        }
-    }
-    block
+    array::from_fn(|k| match bytes.get(k) {
+        Some(b) => *b,
+        None => u8::from(k == bytes.len()),
+    })
 }
 
-// The sealed bytes of the block that begins at `start`.
-fn seal_block(engine: &Sliced, start: usize, sealed: &mut [u8; 39]) {
-    for k in 0..12 {
-        if start < 39 && k < 39 - start {
-            sealed[start + k] = engine.byte(k) ^ TEXT[start + k];
-        }
+// The sealed bytes of one block of text.
+fn seal_block(engine: &Sliced, text: &[u8], sealed: &mut [u8]) {
+    for (k, (y, x)) in sealed.iter_mut().zip(text).enumerate() {
+        *y = engine.byte(k) ^ *x;
     }
 }
 
 fn digests(rt: &HostRuntime, engine: &mut Sliced) -> io::Result<()> {
+    let counted: [u8; TEXT.len()] = array::from_fn(|k| k as u8);
     digest_of(rt, engine, "digest of the printed text", &TEXT)?;
-    digest_of(rt, engine, "digest of the bytes 00 to 26", &counted())
-}
-
-fn counted() -> [u8; 39] {
-    let mut bytes = [0u8; 39];
-    for k in 0..39u8 {
-        bytes[k as usize] = k;
-    }
-    bytes
+    digest_of(rt, engine, "digest of the bytes 00 to 26", &counted)
 }
 
 fn digest_of(rt: &HostRuntime, engine: &mut Sliced, name: &str, text: &[u8]) -> io::Result<()> {
-    let mut place = [0u8; 32];
-    if digest(engine, text, &mut place).is_err() {
-        return println!(rt; "{name}: refused");
+    let mut place = [0; 32];
+    match digest(engine, text, &mut place) {
+        Ok(()) => compare(rt, name, &place, DIGEST),
+        Err(_) => println!(rt; "{name}: refused"),
     }
-    compare(rt, name, &place, DIGEST)
 }
 
-fn compare(rt: &HostRuntime, name: &str, computed: &[u8], published: &str) -> io::Result<()> {
-    print!(rt; "{name}: computed ")?;
-    for b in computed {
-        print!(rt; "{b:02X}")?;
-    }
-    let verdict = if is_hex_of(published.as_bytes(), computed) {
+fn compare(
+    rt: &HostRuntime,
+    name: impl fmt::Display + Drop,
+    computed: &[u8],
+    published: &str,
+) -> io::Result<()> {
+    let computed = encode_upper(rt.alloc(), computed)?;
+    let verdict = if computed.as_str() == published {
         "agrees"
     } else {
         "differs"
     };
-    println!(rt; ", published {published}: {verdict}")
-}
-
-fn is_hex_of(text: &[u8], bytes: &[u8]) -> bool {
-    let mut same = text.len() / 2 == bytes.len();
-    for (k, c) in text.iter().enumerate() {
-        let b = if k / 2 < bytes.len() { bytes[k / 2] } else { 0 };
-        let nibble = if k % 2 == 0 { b / 16 } else { b % 16 };
-        if *c != hex_digit(nibble) {
-            same = false;
-        }
-    }
-    same
-}
-
-fn hex_digit(n: u8) -> u8 {
-    match n {
-        0..=9 => b'0' + n,
-        10..=15 => b'A' + (n - 10),
-        _ => b'?',
-    }
+    println!(rt; "{name}: computed {computed}, published {published}: {verdict}")
 }

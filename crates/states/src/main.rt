@@ -5,8 +5,10 @@
 
 use agreement::{turned, turned_back};
 use columns::Columns;
+use hex::FromHex;
 use sliced::Sliced;
-use std::io;
+use std::str::FromStr;
+use std::{array, fmt, io};
 use sycon::engine::{Engine, StateBytes, TwoWay};
 use sycon::examples::worked_examples;
 use sycon::{engine, laws};
@@ -19,13 +21,13 @@ struct Case {
 }
 
 /// How many cases an engine met, ahead and back.
-#[derive(Clone, Copy)]
+#[derive(Clone, Copy, Default)]
 struct Met {
     ahead: u64,
     back: u64,
 }
 
-#[derive(Clone, Copy)]
+#[derive(Clone, Copy, Default)]
 struct Score {
     cases: u64,
     unread: u64,
@@ -34,106 +36,98 @@ struct Score {
 }
 
 fn main(rt: HostRuntime) -> io::Result<()> {
-    let score = cases(&rt)?;
-    let Score {
-        cases,
-        unread,
-        sliced,
-        columns,
-    } = score;
-    println!(rt; "cases: {cases}, lines that are none: {unread}")?;
-    report(&rt, "five words", sliced)?;
-    report(&rt, "64 columns", columns)?;
+    let score = read(&rt)?;
+    println!(rt; "{score}")?;
     edges(&rt, "five words", &mut Sliced::new())?;
     edges(&rt, "64 columns", &mut Columns::new())?;
     examples(&rt)
 }
 
-fn cases(rt: &HostRuntime) -> io::Result<Score> {
-    let mut score = Score {
-        cases: 0,
-        unread: 0,
-        sliced: Met { ahead: 0, back: 0 },
-        columns: Met { ahead: 0, back: 0 },
-    };
+fn read(rt: &HostRuntime) -> io::Result<Score> {
+    let mut score = Score::default();
     for line in rt.lines(rt.alloc()) {
-        match parse(line?.as_str()) {
-            Some(case) => score = scored(score, &case),
-            None => score.unread = score.unread.saturating_add(1),
+        match line?.as_str().parse::<Case>() {
+            Ok(case) => score.note(&case),
+            Err(NoCase) => score.note_unread(),
         }
     }
     Ok(score)
 }
 
-fn scored(score: Score, case: &Case) -> Score {
-    let ahead = turned(&case.before, case.rounds);
-    let back = turned_back(&case.after, case.rounds);
-    Score {
-        cases: score.cases.saturating_add(1),
-        unread: score.unread,
-        sliced: counted(
-            score.sliced,
-            ahead.sliced == case.after,
-            back.sliced == case.before,
-        ),
-        columns: counted(
-            score.columns,
-            ahead.columns == case.after,
-            back.columns == case.before,
-        ),
+impl Score {
+    fn note(&mut self, case: &Case) {
+        let ahead = turned(&case.before, case.rounds);
+        let back = turned_back(&case.after, case.rounds);
+        self.cases = self.cases.saturating_add(1);
+        self.sliced
+            .note(ahead.sliced == case.after, back.sliced == case.before);
+        self.columns
+            .note(ahead.columns == case.after, back.columns == case.before);
+    }
+
+    fn note_unread(&mut self) {
+        self.unread = self.unread.saturating_add(1);
     }
 }
 
-fn counted(so_far: Met, ahead: bool, back: bool) -> Met {
-    Met {
-        ahead: so_far.ahead.saturating_add(u64::from(ahead)),
-        back: so_far.back.saturating_add(u64::from(back)),
+impl fmt::Display for Score {
+    fn fmt<W: fmt::Write>(&self, f: &mut fmt::Formatter<W>) -> fmt::Result {
+        let Score {
+            cases,
+            unread,
+            sliced,
+            columns,
+        } = *self;
+        writeln!(f, "cases: {cases}, lines that are none: {unread}")?;
+        writeln!(f, "five words: {sliced}")?;
+        write!(f, "64 columns: {columns}")
     }
 }
 
-fn parse(line: &str) -> Option<Case> {
-    let mut words = line.split(' ');
-    let rounds = words.next()?.parse::<usize>().ok()?;
-    let before = state(words.next()?)?;
-    let after = state(words.next()?)?;
-    Some(Case {
-        rounds,
-        before,
-        after,
-    })
-}
-
-// 40 bytes, each as two hexadecimal digits.
-fn state(text: &str) -> Option<StateBytes> {
-    let digits = text.as_bytes();
-    if digits.len() != 80 {
-        return None;
-    }
-    let mut bytes = [0u8; 40];
-    for k in 0..40 {
-        bytes[k] = digit(digits[2 * k])? << 4 | digit(digits[2 * k + 1])?;
-    }
-    Some(bytes)
-}
-
-fn digit(code: u8) -> Option<u8> {
-    match code {
-        b'0'..=b'9' => Some(code - b'0'),
-        b'a'..=b'f' => Some(code - b'a' + 10),
-        _ => None,
+impl Met {
+    fn note(&mut self, ahead: bool, back: bool) {
+        self.ahead = self.ahead.saturating_add(u64::from(ahead));
+        self.back = self.back.saturating_add(u64::from(back));
     }
 }
 
-fn report(rt: &HostRuntime, name: &str, met: Met) -> io::Result<()> {
-    let Met { ahead, back } = met;
-    println!(rt; "{name}: {ahead} met ahead, {back} met back")
+impl fmt::Display for Met {
+    fn fmt<W: fmt::Write>(&self, f: &mut fmt::Formatter<W>) -> fmt::Result {
+        let Met { ahead, back } = *self;
+        write!(f, "{ahead} met ahead, {back} met back")
+    }
+}
+
+/// The line is no case.
+#[derive(Clone, Copy, Debug)]
+struct NoCase;
+
+impl FromStr for Case {
+    type Err = NoCase;
+
+    fn from_str(line: &str) -> Result<Case, NoCase> {
+        let mut words = line.split(' ');
+        let rounds = words.next().ok_or(NoCase)?;
+        let before = words.next().ok_or(NoCase)?;
+        let after = words.next().ok_or(NoCase)?;
+        Ok(Case {
+            rounds: rounds.parse().map_err(|_| NoCase)?,
+            before: state(before)?,
+            after: state(after)?,
+        })
+    }
+}
+
+// 40 bytes, each as two hexadecimal digits. The cases have no capital letters, and a line that has some is none.
+fn state(digits: &str) -> Result<StateBytes, NoCase> {
+    if digits.bytes().any(|c| c.is_ascii_uppercase()) {
+        return Err(NoCase);
+    }
+    StateBytes::from_hex(digits).map_err(|_| NoCase)
 }
 
 fn edges<E: TwoWay>(rt: &HostRuntime, name: &str, engine: &mut E) -> io::Result<()> {
-    let mut bytes = [0u8; 40];
-    for k in 0..40 {
-        bytes[k] = 100 + k as u8;
-    }
+    let mut bytes: StateBytes = array::from_fn(|k| 100 + k as u8);
     engine.load(&bytes);
     let last = engine.byte(39);
     let past = engine.byte(40);

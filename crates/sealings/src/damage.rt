@@ -3,7 +3,7 @@
 use crate::place;
 use crate::place::{Left, MARK, TAIL, USED};
 use refusal::Refusal;
-use sealing::{Rate, open, seal};
+use sealing::{Rate, Under, open, seal};
 use std::fmt;
 use sycon::engine::Engine;
 
@@ -30,17 +30,8 @@ struct Delivery {
     nonce: [u8; 16],
 }
 
-#[derive(Clone, Copy)]
-enum Part {
-    Sealed,
-    Seal,
-    Label,
-    Key,
-    Nonce,
-}
-
 /// What came of the delivery as it was, and of those damaged in each part.
-#[derive(Clone, Copy)]
+#[derive(Clone, Copy, Default)]
 pub struct Damages {
     undamaged: Left,
     sealed: Left,
@@ -50,25 +41,16 @@ pub struct Damages {
     nonce: Left,
 }
 
-impl Damages {
-    pub const NONE: Damages = Damages {
-        undamaged: Left::NONE,
-        sealed: Left::NONE,
-        seal: Left::NONE,
-        label: Left::NONE,
-        key: Left::NONE,
-        nonce: Left::NONE,
-    };
-}
-
 impl fmt::Display for Damages {
     fn fmt<W: fmt::Write>(&self, f: &mut fmt::Formatter<W>) -> fmt::Result {
-        let undamaged = self.undamaged;
-        let sealed = self.sealed;
-        let seal = self.seal;
-        let label = self.label;
-        let key = self.key;
-        let nonce = self.nonce;
+        let Damages {
+            undamaged,
+            sealed,
+            seal,
+            label,
+            key,
+            nonce,
+        } = *self;
         writeln!(f, "nothing changed, so opened: {undamaged}")?;
         writeln!(
             f,
@@ -84,19 +66,24 @@ impl fmt::Display for Damages {
 /// Opens the delivery, and then each that differs from it in one byte.
 pub fn deliver<R: Rate, E: Engine>(engine: &mut E, score: &mut Damages) {
     let delivery = sealed_delivery::<R, E>(engine);
-    open_undamaged::<R, E>(engine, &delivery, &mut score.undamaged);
-    damage::<R, E>(engine, &delivery, Part::Sealed, LEN, &mut score.sealed);
-    damage::<R, E>(engine, &delivery, Part::Seal, 16, &mut score.seal);
-    damage::<R, E>(engine, &delivery, Part::Label, 12, &mut score.label);
-    damage::<R, E>(engine, &delivery, Part::Key, 16, &mut score.key);
-    damage::<R, E>(engine, &delivery, Part::Nonce, 16, &mut score.nonce);
+    open_delivery::<R, E>(engine, &delivery, Ok(()), &TEXT, &mut score.undamaged);
+    damage::<R, E, _>(engine, &delivery, |d| &mut d.sealed, &mut score.sealed);
+    damage::<R, E, _>(engine, &delivery, |d| &mut d.tag, &mut score.seal);
+    damage::<R, E, _>(engine, &delivery, |d| &mut d.label, &mut score.label);
+    damage::<R, E, _>(engine, &delivery, |d| &mut d.key, &mut score.key);
+    damage::<R, E, _>(engine, &delivery, |d| &mut d.nonce, &mut score.nonce);
 }
 
 // Where sealing is refused the delivery does not open, which is counted.
 fn sealed_delivery<R: Rate, E: Engine>(engine: &mut E) -> Delivery {
+    let under = Under {
+        key: &KEY,
+        nonce: &NONCE,
+        label: &LABEL,
+    };
     let mut sealed = [0; LEN];
     let mut tag = [0; 16];
-    let _ = seal::<R, E>(engine, &KEY, &NONCE, &LABEL, &TEXT, &mut sealed, &mut tag);
+    let _ = seal::<R, E>(engine, under, &TEXT, &mut sealed, &mut tag);
     Delivery {
         sealed,
         tag,
@@ -106,70 +93,44 @@ fn sealed_delivery<R: Rate, E: Engine>(engine: &mut E) -> Delivery {
     }
 }
 
-fn open_undamaged<R: Rate, E: Engine>(engine: &mut E, delivery: &Delivery, score: &mut Left) {
-    let mut place = [MARK; PLACE];
-    let answer = open_delivery::<R, E>(engine, delivery, &mut place);
-    let (front, tail) = place::split(&place, LEN);
-    score.note(answer.is_ok(), front, &TEXT, tail, engine);
-}
-
-fn damage<R: Rate, E: Engine>(
+// Opens each delivery that differs from this one in a byte of one part.
+fn damage<R: Rate, E: Engine, F: Fn(&mut Delivery) -> &mut [u8]>(
     engine: &mut E,
     delivery: &Delivery,
-    part: Part,
-    len: usize,
+    part: F,
     score: &mut Left,
-) {
+)
+    requires { F.IsAlwaysCallable part }
+{
+    let mut whole = *delivery;
+    let len = part(&mut whole).len();
     for at in 0..len {
         for difference in 1..=255u8 {
-            let damaged = delivery.damaged(part, at, difference);
-            open_damaged::<R, E>(engine, &damaged, score);
+            let mut damaged = *delivery;
+            if let Some(b) = part(&mut damaged).get_mut(at) {
+                *b ^= difference;
+            }
+            open_delivery::<R, E>(engine, &damaged, Err(Refusal::BrokenSeal), &[0; LEN], score);
         }
     }
 }
 
-impl Delivery {
-    fn damaged(&self, part: Part, at: usize, difference: u8) -> Delivery {
-        let mut damaged = *self;
-        match part {
-            Part::Sealed => change(&mut damaged.sealed, at, difference),
-            Part::Seal => change(&mut damaged.tag, at, difference),
-            Part::Label => change(&mut damaged.label, at, difference),
-            Part::Key => change(&mut damaged.key, at, difference),
-            Part::Nonce => change(&mut damaged.nonce, at, difference),
-        }
-        damaged
-    }
-}
-
-// Past the end nothing changes, so that the delivery opens, which is counted.
-fn change(bytes: &mut [u8], at: usize, difference: u8) {
-    if at < bytes.len() {
-        bytes[at] ^= difference;
-    }
-}
-
-fn open_damaged<R: Rate, E: Engine>(engine: &mut E, damaged: &Delivery, score: &mut Left) {
-    let mut place = [MARK; PLACE];
-    let answer = open_delivery::<R, E>(engine, damaged, &mut place);
-    let refused = matches!(answer, Err(Refusal::BrokenSeal));
-    let (front, tail) = place::split(&place, LEN);
-    score.note(refused, front, &[0; LEN], tail, engine);
-}
-
+// Opens a delivery that should give this answer, and these bytes in the place.
 fn open_delivery<R: Rate, E: Engine>(
     engine: &mut E,
     delivery: &Delivery,
-    place: &mut [u8],
-) -> Result<(), Refusal> {
+    expected: Result<(), Refusal>,
+    bytes: &[u8; LEN],
+    score: &mut Left,
+) {
+    let under = Under {
+        key: &delivery.key,
+        nonce: &delivery.nonce,
+        label: &delivery.label,
+    };
+    let mut place = [MARK; PLACE];
     engine.load(&USED);
-    open::<R, E>(
-        engine,
-        &delivery.key,
-        &delivery.nonce,
-        &delivery.label,
-        &delivery.sealed,
-        &delivery.tag,
-        place,
-    )
+    let answer = open::<R, E>(engine, under, &delivery.sealed, &delivery.tag, &mut place);
+    let (front, tail) = place::split(&place, LEN);
+    score.note(answer == expected, front, bytes, tail, engine);
 }

@@ -1,6 +1,7 @@
 //! The lines of the input.
 
-use crate::trial::{Case, Long, Under};
+use crate::trial::{Case, Expected};
+use sealing::Under;
 use std::alloc::Global;
 use std::str::Split;
 
@@ -54,17 +55,19 @@ impl SealingLine {
         Case {
             under: self.under.lent(),
             text: self.text.as_slice(),
-            sealed: self.sealed.as_slice(),
+            sealed: Expected::Bytes(self.sealed.as_slice()),
             tag: self.tag.as_slice(),
         }
     }
 }
 
 impl LongLine {
-    pub fn long(&self) -> Long<'_> {
-        Long {
+    /// The line does not have the long text.
+    pub fn case<'a>(&'a self, text: &'a [u8]) -> Case<'a> {
+        Case {
             under: self.under.lent(),
-            digest: self.digest.as_slice(),
+            text,
+            sealed: Expected::Digest(self.digest.as_slice()),
             tag: self.tag.as_slice(),
         }
     }
@@ -82,77 +85,82 @@ impl UnderWords {
 
 /// None where it is no such line, or no memory is left for its bytes.
 pub fn parse(heap: Global, line: &str) -> Option<Line> {
-    let mut words = line.split(' ');
-    let kind = words.next()?;
-    let line = match kind {
-        "digest" => Line::Digest(digest_line(heap, &mut words)?),
-        "long" => Line::Long(parse_bits(words.next()?)?, long_line(heap, &mut words)?),
-        _ => Line::Sealing(parse_bits(kind)?, sealing_line(heap, &mut words)?),
+    let mut words = Words {
+        heap,
+        rest: line.split(' '),
     };
-    match words.next() {
-        Some(_) => None,
-        None => Some(line),
+    let line = match words.word()? {
+        "digest" => Line::Digest(words.digest_line()?),
+        "long" => Line::Long(words.bits()?, words.long_line()?),
+        kind => Line::Sealing(Bits::parse(kind)?, words.sealing_line()?),
+    };
+    words.word().is_none().then_some(line)
+}
+
+impl Bits {
+    fn parse(word: &str) -> Option<Bits> {
+        match word {
+            "64" => Some(Bits::Narrow),
+            "96" => Some(Bits::Wide),
+            _ => None,
+        }
     }
 }
 
-fn parse_bits(word: &str) -> Option<Bits> {
-    match word {
-        "64" => Some(Bits::Narrow),
-        "96" => Some(Bits::Wide),
-        _ => None,
+// The words of a line that are left, and where their bytes go.
+#[derive(Drop)]
+struct Words<'a> {
+    heap: Global,
+    rest: Split<'a, char>,
+}
+
+impl<'a> Words<'a> {
+    fn word(&mut self) -> Option<&'a str> {
+        self.rest.next()
     }
-}
 
-fn sealing_line(heap: Global, words: &mut Split<'_, char>) -> Option<SealingLine> {
-    Some(SealingLine {
-        under: under_words(heap, words)?,
-        text: bytes(heap, words.next()?)?,
-        sealed: bytes(heap, words.next()?)?,
-        tag: bytes(heap, words.next()?)?,
-    })
-}
-
-fn long_line(heap: Global, words: &mut Split<'_, char>) -> Option<LongLine> {
-    Some(LongLine {
-        under: under_words(heap, words)?,
-        digest: bytes(heap, words.next()?)?,
-        tag: bytes(heap, words.next()?)?,
-    })
-}
-
-fn digest_line(heap: Global, words: &mut Split<'_, char>) -> Option<DigestLine> {
-    Some(DigestLine {
-        text: bytes(heap, words.next()?)?,
-        digest: bytes(heap, words.next()?)?,
-    })
-}
-
-fn under_words(heap: Global, words: &mut Split<'_, char>) -> Option<UnderWords> {
-    Some(UnderWords {
-        key: bytes(heap, words.next()?)?,
-        nonce: bytes(heap, words.next()?)?,
-        label: bytes(heap, words.next()?)?,
-    })
-}
-
-fn bytes(heap: Global, word: &str) -> Option<Vec<u8>> {
-    let mut bytes = Vec::new(heap);
-    if word == "-" {
-        return Some(bytes);
+    fn bits(&mut self) -> Option<Bits> {
+        Bits::parse(self.word()?)
     }
-    for pair in word.as_bytes().chunks(2) {
-        let [high, low] = pair else {
-            return None;
-        };
-        bytes.push(digit(*high)? << 4 | digit(*low)?).ok()?;
-    }
-    Some(bytes)
-}
 
-fn digit(code: u8) -> Option<u8> {
-    match code {
-        b'0'..=b'9' => Some(code - b'0'),
-        b'a'..=b'f' => Some(code - b'a' + 10),
-        _ => None,
+    // The model writes no capital letters, and a line that has some is none.
+    fn bytes(&mut self) -> Option<Vec<u8>> {
+        match self.word()? {
+            "-" => Some(Vec::new(self.heap)),
+            word if word.bytes().any(|c| c.is_ascii_uppercase()) => None,
+            word => hex::decode(self.heap, word).ok(),
+        }
+    }
+
+    fn under(&mut self) -> Option<UnderWords> {
+        Some(UnderWords {
+            key: self.bytes()?,
+            nonce: self.bytes()?,
+            label: self.bytes()?,
+        })
+    }
+
+    fn sealing_line(&mut self) -> Option<SealingLine> {
+        Some(SealingLine {
+            under: self.under()?,
+            text: self.bytes()?,
+            sealed: self.bytes()?,
+            tag: self.bytes()?,
+        })
+    }
+
+    fn long_line(&mut self) -> Option<LongLine> {
+        Some(LongLine {
+            under: self.under()?,
+            digest: self.bytes()?,
+            tag: self.bytes()?,
+        })
+    }
+
+    fn digest_line(&mut self) -> Option<DigestLine> {
+        Some(DigestLine {
+            text: self.bytes()?,
+            digest: self.bytes()?,
+        })
     }
 }

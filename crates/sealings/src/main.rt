@@ -29,7 +29,7 @@ fn main(rt: HostRuntime) -> io::Result<()> {
 }
 
 fn damages() -> Damages {
-    let mut score = Damages::NONE;
+    let mut score = Damages::default();
     damages_at::<Rate64>(&mut score);
     damages_at::<Rate96>(&mut score);
     score
@@ -41,7 +41,7 @@ fn damages_at<R: Rate>(score: &mut Damages) {
 }
 
 fn wrong_lengths(heap: Global) -> Result<Measures, AllocError> {
-    let mut score = Measures::NONE;
+    let mut score = Measures::default();
     wrong_lengths_at::<Rate64>(heap, &mut score)?;
     wrong_lengths_at::<Rate96>(heap, &mut score)?;
     measures::measure_digest::<Sliced>(heap, &mut Sliced::new(), &mut score)?;

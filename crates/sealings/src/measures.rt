@@ -1,10 +1,10 @@
 //! Wrong lengths, at which a call refuses and leaves everything as it was.
 
 use crate::place;
-use crate::place::{CLEARED, MARK, USED};
+use crate::place::{CLEARED, GIVEN, MARK, USED};
 use crate::tally::Tally;
 use refusal::Refusal;
-use sealing::{Rate, digest, open, seal};
+use sealing::{Rate, Under, digest, open, seal};
 use std::alloc::{AllocError, Global};
 use std::fmt;
 use sycon::engine;
@@ -39,26 +39,8 @@ const RIGHT: Lengths = Lengths {
 
 const TOO_SHORT: usize = BYTES.len() - 1;
 
-impl Lengths {
-    fn with_key(self, key: usize) -> Lengths {
-        Lengths { key, ..self }
-    }
-
-    fn with_nonce(self, nonce: usize) -> Lengths {
-        Lengths { nonce, ..self }
-    }
-
-    fn with_tag(self, tag: usize) -> Lengths {
-        Lengths { tag, ..self }
-    }
-
-    fn with_place(self, place: usize) -> Lengths {
-        Lengths { place, ..self }
-    }
-}
-
 /// How often calls refused for a wrong length, and left their places and the engine as they were.
-#[derive(Clone, Copy)]
+#[derive(Clone, Copy, Default)]
 pub struct Refused {
     answer: Tally,
     places: Tally,
@@ -66,12 +48,6 @@ pub struct Refused {
 }
 
 impl Refused {
-    pub const NONE: Refused = Refused {
-        answer: Tally::NONE,
-        places: Tally::NONE,
-        engine: Tally::NONE,
-    };
-
     fn note<E: Engine>(&mut self, answer: Result<(), Refusal>, places_stay: bool, engine: &E) {
         self.answer.note(matches!(answer, Err(Refusal::Measure)));
         self.places.note(places_stay);
@@ -81,9 +57,11 @@ impl Refused {
 
 impl fmt::Display for Refused {
     fn fmt<W: fmt::Write>(&self, f: &mut fmt::Formatter<W>) -> fmt::Result {
-        let answer = self.answer;
-        let places = self.places;
-        let engine = self.engine;
+        let Refused {
+            answer,
+            places,
+            engine,
+        } = *self;
         write!(
             f,
             "refused {answer}, places unchanged {places}, engine unchanged {engine}"
@@ -92,7 +70,7 @@ impl fmt::Display for Refused {
 }
 
 /// What came of wrong lengths, and of an empty text in empty places, which is right.
-#[derive(Clone, Copy)]
+#[derive(Clone, Copy, Default)]
 pub struct Measures {
     seal: Refused,
     open: Refused,
@@ -101,23 +79,15 @@ pub struct Measures {
     empty_opened: Tally,
 }
 
-impl Measures {
-    pub const NONE: Measures = Measures {
-        seal: Refused::NONE,
-        open: Refused::NONE,
-        digest: Refused::NONE,
-        empty_sealed: Tally::NONE,
-        empty_opened: Tally::NONE,
-    };
-}
-
 impl fmt::Display for Measures {
     fn fmt<W: fmt::Write>(&self, f: &mut fmt::Formatter<W>) -> fmt::Result {
-        let seal = self.seal;
-        let open = self.open;
-        let digest = self.digest;
-        let empty_sealed = self.empty_sealed;
-        let empty_opened = self.empty_opened;
+        let Measures {
+            seal,
+            open,
+            digest,
+            empty_sealed,
+            empty_opened,
+        } = *self;
         writeln!(f, "wrong lengths to seal: {seal}")?;
         writeln!(f, "wrong lengths to open: {open}")?;
         writeln!(f, "wrong lengths to digest: {digest}")?;
@@ -135,11 +105,28 @@ pub fn measure<R: Rate, E: Engine>(
     score: &mut Measures,
 ) -> Result<(), AllocError> {
     for wrong in WRONG {
-        refuse_both::<R, E>(heap, engine, RIGHT.with_key(wrong), score)?;
-        refuse_both::<R, E>(heap, engine, RIGHT.with_nonce(wrong), score)?;
-        refuse_both::<R, E>(heap, engine, RIGHT.with_tag(wrong), score)?;
+        for lengths in [
+            Lengths {
+                key: wrong,
+                ..RIGHT
+            },
+            Lengths {
+                nonce: wrong,
+                ..RIGHT
+            },
+            Lengths {
+                tag: wrong,
+                ..RIGHT
+            },
+        ] {
+            refuse_both::<R, E>(heap, engine, lengths, score)?;
+        }
     }
-    refuse_both::<R, E>(heap, engine, RIGHT.with_place(TOO_SHORT), score)?;
+    let too_short = Lengths {
+        place: TOO_SHORT,
+        ..RIGHT
+    };
+    refuse_both::<R, E>(heap, engine, too_short, score)?;
     accept_empty::<R, E>(engine, score);
     Ok(())
 }
@@ -150,56 +137,42 @@ fn refuse_both<R: Rate, E: Engine>(
     lengths: Lengths,
     score: &mut Measures,
 ) -> Result<(), AllocError> {
-    refuse_to_seal::<R, E>(heap, engine, lengths, &mut score.seal)?;
-    refuse_to_open::<R, E>(heap, engine, lengths, &mut score.open)
+    let seal = |engine: &mut E, under: Under<'_>, sealed: &mut [u8], tag: &mut [u8]| {
+        seal::<R, E>(engine, under, &BYTES, sealed, tag)
+    };
+    let open = |engine: &mut E, under: Under<'_>, text: &mut [u8], tag: &mut [u8]| {
+        open::<R, E>(engine, under, &BYTES, tag, text)
+    };
+    refuse(heap, engine, lengths, MARK, seal, &mut score.seal)?;
+    refuse(heap, engine, lengths, GIVEN, open, &mut score.open)
 }
 
-fn refuse_to_seal<R: Rate, E: Engine>(
+// A call that takes these lengths; the place is marked, and each byte of the seal's is `fill`.
+fn refuse<E: Engine, F>(
     heap: Global,
     engine: &mut E,
     lengths: Lengths,
+    fill: u8,
+    call: F,
     score: &mut Refused,
-) -> Result<(), AllocError> {
+) -> Result<(), AllocError>
+where
+    F: FnOnce(&mut E, Under<'_>, &mut [u8], &mut [u8]) -> Result<(), Refusal>,
+    requires { F.IsAlwaysCallable call }
+{
     let key = place::given(heap, lengths.key)?;
     let nonce = place::given(heap, lengths.nonce)?;
-    let mut tag = place::marked(heap, lengths.tag)?;
-    let mut sealed = place::marked(heap, lengths.place)?;
+    let mut tag = vec![in heap; fill; lengths.tag]?;
+    let mut place = place::marked(heap, lengths.place)?;
+    let under = Under {
+        key: key.as_slice(),
+        nonce: nonce.as_slice(),
+        label: &LABEL,
+    };
     engine.load(&USED);
-    let answer = seal::<R, E>(
-        engine,
-        key.as_slice(),
-        nonce.as_slice(),
-        &LABEL,
-        &BYTES,
-        sealed.as_mut_slice(),
-        tag.as_mut_slice(),
-    );
-    let stay = place::is_marked(sealed.as_slice()) && place::is_marked(tag.as_slice());
+    let answer = call(engine, under, place.as_mut_slice(), tag.as_mut_slice());
+    let stay = place::is_marked(place.as_slice()) && tag.iter().all(|b| *b == fill);
     score.note(answer, stay, engine);
-    Ok(())
-}
-
-fn refuse_to_open<R: Rate, E: Engine>(
-    heap: Global,
-    engine: &mut E,
-    lengths: Lengths,
-    score: &mut Refused,
-) -> Result<(), AllocError> {
-    let key = place::given(heap, lengths.key)?;
-    let nonce = place::given(heap, lengths.nonce)?;
-    let tag = place::given(heap, lengths.tag)?;
-    let mut text = place::marked(heap, lengths.place)?;
-    engine.load(&USED);
-    let answer = open::<R, E>(
-        engine,
-        key.as_slice(),
-        nonce.as_slice(),
-        &LABEL,
-        &BYTES,
-        tag.as_slice(),
-        text.as_mut_slice(),
-    );
-    score.note(answer, place::is_marked(text.as_slice()), engine);
     Ok(())
 }
 
@@ -221,16 +194,19 @@ pub fn measure_digest<E: Engine>(
 }
 
 fn accept_empty<R: Rate, E: Engine>(engine: &mut E, score: &mut Measures) {
-    let key = [MARK; 16];
-    let nonce = [MARK; 16];
+    let under = Under {
+        key: &[MARK; 16],
+        nonce: &[MARK; 16],
+        label: &LABEL,
+    };
     let mut tag = [0; 16];
     engine.load(&USED);
-    let answer = seal::<R, E>(engine, &key, &nonce, &LABEL, &[], &mut [], &mut tag);
+    let answer = seal::<R, E>(engine, under, &[], &mut [], &mut tag);
     score
         .empty_sealed
         .note(answer.is_ok() && engine::bytes(engine) == CLEARED);
     engine.load(&USED);
-    let answer = open::<R, E>(engine, &key, &nonce, &LABEL, &[], &tag, &mut []);
+    let answer = open::<R, E>(engine, under, &[], &tag, &mut []);
     score
         .empty_opened
         .note(answer.is_ok() && engine::bytes(engine) == CLEARED);

@@ -9,7 +9,8 @@ use sycon::engine::{Engine, StateBytes};
 /// What every byte of a place holds before a call.
 pub const MARK: u8 = 0xA5;
 
-const GIVEN: u8 = 0x3C;
+/// What every byte that a call reads holds, where the bytes do not matter.
+pub const GIVEN: u8 = 0x3C;
 
 /// How many bytes longer than needed a place is.
 pub const TAIL: usize = 5;
@@ -34,15 +35,11 @@ pub fn given(heap: Global, len: usize) -> Result<Vec<u8>, AllocError> {
 }
 
 pub fn is_marked(bytes: &[u8]) -> bool {
-    let mut same = true;
-    for b in bytes {
-        same = same && *b == MARK;
-    }
-    same
+    bytes.iter().all(|b| *b == MARK)
 }
 
 /// What calls left that write to a place with a tail: how often each was as expected.
-#[derive(Clone, Copy)]
+#[derive(Clone, Copy, Default)]
 pub struct Left {
     answer: Tally,
     front: Tally,
@@ -51,13 +48,6 @@ pub struct Left {
 }
 
 impl Left {
-    pub const NONE: Left = Left {
-        answer: Tally::NONE,
-        front: Tally::NONE,
-        tail: Tally::NONE,
-        engine: Tally::NONE,
-    };
-
     /// Whether the answer was the expected one; what stands at the front of the place, and what should; what
     /// stands behind it; and the engine, which should be cleared.
     pub fn note<E: Engine>(
@@ -77,10 +67,12 @@ impl Left {
 
 impl fmt::Display for Left {
     fn fmt<W: fmt::Write>(&self, f: &mut fmt::Formatter<W>) -> fmt::Result {
-        let answer = self.answer;
-        let front = self.front;
-        let tail = self.tail;
-        let engine = self.engine;
+        let Left {
+            answer,
+            front,
+            tail,
+            engine,
+        } = *self;
         write!(
             f,
             "answer {answer}, bytes {front}, tail {tail}, engine cleared {engine}"

@@ -1,7 +1,7 @@
 //! The lines of the input, each tried with both engines.
 
 use crate::line::{Bits, DigestLine, Line};
-use crate::trial::{Case, Digested, Long, Score};
+use crate::trial::{Case, Digested, Score};
 use crate::{line, trial};
 use columns::Columns;
 use sealing::{Rate, Rate64, Rate96};
@@ -12,94 +12,37 @@ use std::io;
 // The length of the long text.
 const LONG: usize = 60_000;
 
-// What both engines did at one rate.
-#[derive(Clone, Copy)]
-struct AtRate {
-    sliced: Score,
-    columns: Score,
+// What belongs to each engine.
+#[derive(Clone, Copy, Default)]
+struct PerEngine<T> {
+    sliced: T,
+    columns: T,
 }
 
-#[derive(Clone, Copy)]
-struct AtRates {
-    narrow: AtRate,
-    wide: AtRate,
+// What belongs to each rate.
+#[derive(Clone, Copy, Default)]
+struct PerRate<T> {
+    narrow: T,
+    wide: T,
 }
+
+type CaseScores = PerRate<PerEngine<Score>>;
 
 /// What came of all lines.
-#[derive(Clone, Copy)]
+#[derive(Clone, Copy, Default)]
 pub struct Scores {
     unread: u64,
-    cases: AtRates,
-    long: AtRates,
-    sliced_digests: Digested,
-    columns_digests: Digested,
-}
-
-impl AtRate {
-    const NONE: AtRate = AtRate {
-        sliced: Score::NONE,
-        columns: Score::NONE,
-    };
-
-    fn report(&self, rt: &HostRuntime, name: &str, rate: &str) -> io::Result<()> {
-        report_score(rt, name, rate, "five words", self.sliced)?;
-        report_score(rt, name, rate, "64 columns", self.columns)
-    }
-}
-
-impl AtRates {
-    const NONE: AtRates = AtRates {
-        narrow: AtRate::NONE,
-        wide: AtRate::NONE,
-    };
-
-    fn report(&self, rt: &HostRuntime, name: &str) -> io::Result<()> {
-        self.narrow.report(rt, name, "64 bits")?;
-        self.wide.report(rt, name, "96 bits")
-    }
-}
-
-impl Scores {
-    const NONE: Scores = Scores {
-        unread: 0,
-        cases: AtRates::NONE,
-        long: AtRates::NONE,
-        sliced_digests: Digested::NONE,
-        columns_digests: Digested::NONE,
-    };
-
-    pub fn report(&self, rt: &HostRuntime) -> io::Result<()> {
-        let unread = self.unread;
-        let sliced = self.sliced_digests;
-        let columns = self.columns_digests;
-        println!(rt; "lines that are none: {unread}")?;
-        self.cases.report(rt, "cases")?;
-        self.long.report(rt, "long text")?;
-        println!(rt; "digests, five words: {sliced}")?;
-        println!(rt; "digests, 64 columns: {columns}")
-    }
-}
-
-fn report_score(
-    rt: &HostRuntime,
-    name: &str,
-    rate: &str,
-    engine: &str,
-    score: Score,
-) -> io::Result<()> {
-    let sealed = score.sealed;
-    let seal = score.seal;
-    let opened = score.opened;
-    println!(rt; "{name}, {rate}, {engine}, sealed: {sealed}, seal {seal}")?;
-    println!(rt; "{name}, {rate}, {engine}, opened: {opened}")
+    cases: CaseScores,
+    long: CaseScores,
+    digests: PerEngine<Digested>,
 }
 
 pub fn read(rt: &HostRuntime) -> io::Result<Scores> {
     let heap = rt.alloc();
     let text = long_text(heap)?;
-    let mut scores = Scores::NONE;
+    let mut scores = Scores::default();
     for line in rt.lines(heap) {
-        score_line(heap, &mut scores, line?.as_str(), text.as_slice())?;
+        scores.note(heap, line?.as_str(), text.as_slice())?;
     }
     Ok(scores)
 }
@@ -110,83 +53,78 @@ fn long_text(heap: Global) -> Result<Vec<u8>, AllocError> {
     let mut x = 1u32;
     for _ in 0..LONG {
         x = x.wrapping_mul(1664525).wrapping_add(1013904223);
-        let [highest, _, _, _] = x.to_be_bytes();
+        let [highest, ..] = x.to_be_bytes();
         text.push(highest)?;
     }
     Ok(text)
 }
 
-fn score_line(
-    heap: Global,
-    scores: &mut Scores,
-    line: &str,
-    long_text: &[u8],
-) -> Result<(), AllocError> {
-    match line::parse(heap, line) {
-        Some(Line::Sealing(bits, parts)) => {
-            score_case(heap, &mut scores.cases, bits, parts.case())?;
+impl Scores {
+    fn note(&mut self, heap: Global, line: &str, long_text: &[u8]) -> Result<(), AllocError> {
+        match line::parse(heap, line) {
+            Some(Line::Sealing(bits, parts)) => {
+                note_case(heap, &mut self.cases, bits, parts.case())?;
+            }
+            Some(Line::Long(bits, parts)) => {
+                note_case(heap, &mut self.long, bits, parts.case(long_text))?;
+            }
+            Some(Line::Digest(parts)) => note_digest(&mut self.digests, &parts),
+            None => self.unread = self.unread.saturating_add(1),
         }
-        Some(Line::Long(bits, parts)) => {
-            score_long(heap, &mut scores.long, bits, parts.long(), long_text)?;
-        }
-        Some(Line::Digest(parts)) => score_digest(scores, &parts),
-        None => scores.unread = scores.unread.saturating_add(1),
+        Ok(())
+    }
+
+    pub fn report(&self, rt: &HostRuntime) -> io::Result<()> {
+        println!(rt; "lines that are none: {}", self.unread)?;
+        report_cases(rt, "cases", &self.cases)?;
+        report_cases(rt, "long text", &self.long)?;
+        println!(rt; "digests, five words: {}", self.digests.sliced)?;
+        println!(rt; "digests, 64 columns: {}", self.digests.columns)
+    }
+}
+
+fn report_cases(rt: &HostRuntime, name: &str, scores: &CaseScores) -> io::Result<()> {
+    for (rate, engine, score) in [
+        ("64 bits", "five words", scores.narrow.sliced),
+        ("64 bits", "64 columns", scores.narrow.columns),
+        ("96 bits", "five words", scores.wide.sliced),
+        ("96 bits", "64 columns", scores.wide.columns),
+    ] {
+        let Score {
+            sealed,
+            seal,
+            opened,
+        } = score;
+        println!(rt; "{name}, {rate}, {engine}, sealed: {sealed}, seal {seal}")?;
+        println!(rt; "{name}, {rate}, {engine}, opened: {opened}")?;
     }
     Ok(())
 }
 
-fn score_case(
+fn note_case(
     heap: Global,
-    at: &mut AtRates,
+    scores: &mut CaseScores,
     bits: Bits,
     case: Case<'_>,
 ) -> Result<(), AllocError> {
     match bits {
-        Bits::Narrow => case_with_both::<Rate64>(heap, case, &mut at.narrow),
-        Bits::Wide => case_with_both::<Rate96>(heap, case, &mut at.wide),
+        Bits::Narrow => note_with_both::<Rate64>(heap, &mut scores.narrow, case),
+        Bits::Wide => note_with_both::<Rate96>(heap, &mut scores.wide, case),
     }
 }
 
-fn case_with_both<R: Rate>(
+fn note_with_both<R: Rate>(
     heap: Global,
+    scores: &mut PerEngine<Score>,
     case: Case<'_>,
-    at: &mut AtRate,
 ) -> Result<(), AllocError> {
-    trial::seal_and_open::<R, Sliced>(heap, &mut Sliced::new(), case, &mut at.sliced)?;
-    trial::seal_and_open::<R, Columns>(heap, &mut Columns::new(), case, &mut at.columns)
+    trial::seal_and_open::<R, Sliced>(heap, &mut Sliced::new(), case, &mut scores.sliced)?;
+    trial::seal_and_open::<R, Columns>(heap, &mut Columns::new(), case, &mut scores.columns)
 }
 
-fn score_long(
-    heap: Global,
-    at: &mut AtRates,
-    bits: Bits,
-    long: Long<'_>,
-    text: &[u8],
-) -> Result<(), AllocError> {
-    match bits {
-        Bits::Narrow => long_with_both::<Rate64>(heap, long, text, &mut at.narrow),
-        Bits::Wide => long_with_both::<Rate96>(heap, long, text, &mut at.wide),
-    }
-}
-
-fn long_with_both<R: Rate>(
-    heap: Global,
-    long: Long<'_>,
-    text: &[u8],
-    at: &mut AtRate,
-) -> Result<(), AllocError> {
-    trial::seal_and_open_long::<R, Sliced>(heap, &mut Sliced::new(), long, text, &mut at.sliced)?;
-    trial::seal_and_open_long::<R, Columns>(heap, &mut Columns::new(), long, text, &mut at.columns)
-}
-
-fn score_digest(scores: &mut Scores, line: &DigestLine) {
+fn note_digest(scores: &mut PerEngine<Digested>, line: &DigestLine) {
     let text = line.text.as_slice();
     let digest = line.digest.as_slice();
-    trial::digest_text(&mut Sliced::new(), text, digest, &mut scores.sliced_digests);
-    trial::digest_text(
-        &mut Columns::new(),
-        text,
-        digest,
-        &mut scores.columns_digests,
-    );
+    trial::digest_text(&mut Sliced::new(), text, digest, &mut scores.sliced);
+    trial::digest_text(&mut Columns::new(), text, digest, &mut scores.columns);
 }

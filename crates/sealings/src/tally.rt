@@ -3,15 +3,13 @@
 use std::fmt;
 
 /// How often something was tried, and how often it held.
-#[derive(Clone, Copy)]
+#[derive(Clone, Copy, Default)]
 pub struct Tally {
     tried: u64,
     held: u64,
 }
 
 impl Tally {
-    pub const NONE: Tally = Tally { tried: 0, held: 0 };
-
     pub fn note(&mut self, held: bool) {
         self.tried = self.tried.saturating_add(1);
         self.held = self.held.saturating_add(u64::from(held));
@@ -20,8 +18,7 @@ impl Tally {
 
 impl fmt::Display for Tally {
     fn fmt<W: fmt::Write>(&self, f: &mut fmt::Formatter<W>) -> fmt::Result {
-        let held = self.held;
-        let tried = self.tried;
+        let Tally { tried, held } = *self;
         write!(f, "{held} of {tried}")
     }
 }

@@ -43,6 +43,7 @@ pub struct DigestLine {
     pub digest: Vec<u8>,
 }
 
+// Owns what an `Under` lends.
 #[derive(Drop)]
 struct UnderWords {
     key: Vec<u8>,

@@ -1,4 +1,5 @@
-//! The engines' permutation and sealing with the engine of five words, for C programs that time them.
+//! The engines' permutation and sealing with the engine of five words, for C programs that time them. C has no generics and no
+//! `Result`: each engine has functions of its own, and an answer is a number.
 
 #![tactic(auto)]
 

@@ -8,12 +8,14 @@ ghost use Rattle.std.specs.Prelude.{◌≡◌, replicate};
 use sealing::{Rate64, Under, digest, seal};
 use sycon::engine::Engine;
 
-// The key, and the nonce too.
-const KEY: [u8; 16] = [0, 1, 2, 3, 4, 5, 6, 7, 8, 9, 10, 11, 12, 13, 14, 15];
+/// The key, and the nonce too.
+pub const KEY: [u8; 16] = [0, 1, 2, 3, 4, 5, 6, 7, 8, 9, 10, 11, 12, 13, 14, 15];
 
-const LABEL: [u8; 16] = *b"\x05\xAE\x02\x3D\xC3\x10\x5D\xA6\x28\x94\xA1\x6A\x0E\x26\x09\x56";
+/// The label.
+pub const LABEL: [u8; 16] = *b"\x05\xAE\x02\x3D\xC3\x10\x5D\xA6\x28\x94\xA1\x6A\x0E\x26\x09\x56";
 
-const TEXT: [u8; 39] = *b"To authenticate, or not to authenticate";
+/// The text.
+pub const TEXT: [u8; 39] = *b"To authenticate, or not to authenticate";
 
 const DIGESTED: [u8; 39] = [
     0, 1, 2, 3, 4, 5, 6, 7, 8, 9, 10, 11, 12, 13, 14, 15, 16, 17, 18, 19, 20, 21, 22, 23, 24, 25,

@@ -4,4 +4,4 @@
 
 mod example;
 
-pub use example::{Sealed, digest_example, seal_example};
+pub use example::{KEY, LABEL, Sealed, TEXT, digest_example, seal_example};

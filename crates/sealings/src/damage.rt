@@ -93,7 +93,8 @@ fn sealed_delivery<R: Rate, E: Engine>(engine: &mut E) -> Delivery {
     }
 }
 
-// Opens each delivery that differs from this one in a byte of one part.
+// Opens each delivery that differs from this one in a byte of one part. Each is a copy of its own, so the bytes are told by
+// their places.
 fn damage<R: Rate, E: Engine, F: Fn(&mut Delivery) -> &mut [u8]>(
     engine: &mut E,
     delivery: &Delivery,

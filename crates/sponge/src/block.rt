@@ -29,7 +29,8 @@ fn add_bytes<E: Engine>(engine: &mut E, bytes: &[u8])
     }
 }
 
-// A domain's three bits stand at the end of the last byte, the unit last.
+// A domain is a number and no enum: parts of a message share one, and `absorb` takes them all. Its three bits stand at the end
+// of the last byte, the unit last.
 fn domain_byte(domain: u8) -> u8
     ensures { result ≡ domain_byte_of domain }
 {

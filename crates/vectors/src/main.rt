@@ -3,19 +3,13 @@
 #![tactic(auto)]
 
 use hex::encode_upper;
+use published::{KEY, LABEL, Sealed, TEXT};
 use refusal::Refusal;
 use sealing::{Rate, Rate64, Rate96, Under, absorb, digest, seal};
 use sliced::Sliced;
 use std::{array, fmt, io};
 use sycon::engine;
 use sycon::engine::{Engine, StateBytes};
-
-// the key is the nonce too
-const KEY: [u8; 16] = [0, 1, 2, 3, 4, 5, 6, 7, 8, 9, 10, 11, 12, 13, 14, 15];
-
-const LABEL: [u8; 16] = *b"\x05\xAE\x02\x3D\xC3\x10\x5D\xA6\x28\x94\xA1\x6A\x0E\x26\x09\x56";
-
-const TEXT: [u8; 39] = *b"To authenticate, or not to authenticate";
 
 const PERMUTED: &str =
     "31DED502D85527B07357D8E2BFA2AA39DED003A4D911131FBC9A5BA15618C464F23AD59EC3F5F72B";
@@ -38,19 +32,13 @@ struct Published {
     seal: &'static str,
 }
 
-// What was computed of it.
-#[derive(Clone, Copy)]
-struct Sealed {
-    bytes: [u8; TEXT.len()],
-    tag: [u8; 16],
-}
-
 fn main(rt: HostRuntime) -> io::Result<()> {
     let mut engine = Sliced::new();
     permutation(&rt, &mut engine)?;
     at_rate::<Rate64>(&rt, &mut engine, "64 bits", &AT_64_BITS)?;
     at_rate::<Rate96>(&rt, &mut engine, "96 bits, by the rules", &AT_96_BITS)?;
-    Sealed::with_slips(&mut engine).compare(&rt, "96 bits, with two slips", &AT_96_BITS)?;
+    let slipped = seal_with_slips(&mut engine);
+    compare_sealed(&rt, "96 bits, with two slips", &slipped, &AT_96_BITS)?;
     digests(&rt, &mut engine)
 }
 
@@ -71,58 +59,66 @@ fn at_rate<R: Rate>(
     name: &str,
     published: &Published,
 ) -> io::Result<()> {
-    match Sealed::by_the_rules::<R>(engine) {
-        Ok(sealed) => sealed.compare(rt, name, published),
+    match seal_by_the_rules::<R>(engine) {
+        Ok(sealed) => compare_sealed(rt, name, &sealed, published),
         Err(_) => println!(rt; "{name}: refused"),
     }
 }
 
-impl Sealed {
-    fn by_the_rules<R: Rate>(engine: &mut Sliced) -> Result<Sealed, Refusal> {
-        let under = Under {
-            key: &KEY,
-            nonce: &KEY,
-            label: &LABEL,
-        };
-        let mut bytes = [0; TEXT.len()];
-        let mut tag = [0; 16];
-        seal::<R, Sliced>(engine, under, &TEXT, &mut bytes, &mut tag)?;
-        Ok(Sealed { bytes, tag })
-    }
+fn seal_by_the_rules<R: Rate>(engine: &mut Sliced) -> Result<Sealed, Refusal> {
+    let under = Under {
+        key: &KEY,
+        nonce: &KEY,
+        label: &LABEL,
+    };
+    let mut bytes = [0; TEXT.len()];
+    let mut tag = [0; 16];
+    seal::<R, Sliced>(engine, under, &TEXT, &mut bytes, &mut tag)?;
+    Ok(Sealed { bytes, tag })
+}
 
-    // The last label block repeats bytes 8 to 11 of the label instead of taking 12 to 15, and in finishing the 1 bit of the
-    // second key block's padding falls on its first byte.
-    fn with_slips(engine: &mut Sliced) -> Sealed {
-        let [.., a, b, c, d] = KEY;
-        let mut bytes = [0; TEXT.len()];
-        engine.load(&loaded());
-        engine.turn(14);
-        absorb(engine, &KEY[..12], 0, 14);
-        absorb(engine, &padded(&[a, b, c, d]), 1, 14);
-        absorb(engine, &LABEL[..12], 1, 9);
-        absorb(engine, &padded(&LABEL[8..12]), 2, 9);
-        for (text, sealed) in TEXT.chunks(12).zip(bytes.chunks_mut(12)) {
-            let domain = if text.len() == 12 { 2 } else { 4 };
-            seal_block(engine, text, sealed);
-            absorb(engine, &padded(text), domain, 9);
-        }
-        absorb(engine, &KEY[..12], 4, 14);
-        absorb(engine, &[a ^ 1, b, c, d], 4, 14);
-        Sealed {
-            bytes,
-            tag: array::from_fn(|k| engine.byte(16 + k)),
-        }
+// The last label block repeats bytes 8 to 11 of the label instead of taking 12 to 15, and in finishing the 1 bit of the
+// second key block's padding falls on its first byte.
+fn seal_with_slips(engine: &mut Sliced) -> Sealed {
+    let [.., a, b, c, d] = KEY;
+    let mut bytes = [0; TEXT.len()];
+    engine.load(&loaded());
+    engine.turn(14);
+    absorb(engine, &KEY[..12], 0, 14);
+    absorb(engine, &padded(&[a, b, c, d]), 1, 14);
+    absorb(engine, &LABEL[..12], 1, 9);
+    absorb(engine, &padded(&LABEL[8..12]), 2, 9);
+    for (text, sealed) in TEXT.chunks(12).zip(bytes.chunks_mut(12)) {
+        let domain = if text.len() == 12 { 2 } else { 4 };
+        seal_block(engine, text, sealed);
+        absorb(engine, &padded(text), domain, 9);
     }
+    absorb(engine, &KEY[..12], 4, 14);
+    absorb(engine, &[a ^ 1, b, c, d], 4, 14);
+    Sealed {
+        bytes,
+        tag: array::from_fn(|k| engine.byte(16 + k)),
+    }
+}
 
-    fn compare(&self, rt: &HostRuntime, name: &str, published: &Published) -> io::Result<()> {
-        compare(
-            rt,
-            format_args!("{name}, sealed bytes"),
-            &self.bytes,
-            published.sealed,
-        )?;
-        compare(rt, format_args!("{name}, seal"), &self.tag, published.seal)
-    }
+fn compare_sealed(
+    rt: &HostRuntime,
+    name: &str,
+    sealed: &Sealed,
+    published: &Published,
+) -> io::Result<()> {
+    compare(
+        rt,
+        format_args!("{name}, sealed bytes"),
+        &sealed.bytes,
+        published.sealed,
+    )?;
+    compare(
+        rt,
+        format_args!("{name}, seal"),
+        &sealed.tag,
+        published.seal,
+    )
 }
 
 // Key, nonce and the initial vector of 96 bits.

@@ -98,7 +98,7 @@ fn look_up(columns: &ColumnBytes, table: &[u8; 32]) -> ColumnBytes
     columns.map(|column| table[usize::from(column % 32)])
 }
 
-// Step 1.
+// Step 1. This and its inverse differ in the table alone, and each has a promise of its own.
 fn substitute(columns: &ColumnBytes) -> ColumnBytes
     ensures { held result ≡ on_state substituted (held columns.now) }
 {
@@ -191,6 +191,7 @@ fn byte_at(columns: &ColumnBytes, k: usize) -> u8
     )
 }
 
+// By number: `iter_mut` over the eight columns reads no plainer, and its proof needs lemmas on a part that is written back.
 fn put_byte(columns: &mut ColumnBytes, k: usize, b: u8)
     requires { k < 40 }
     ensures { held columns.new ≡ slice_set (held columns.old) k b }

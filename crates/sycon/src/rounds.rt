@@ -39,6 +39,7 @@ pub fn back<T: RoundsBack>(engine: &mut T, r: usize)
     }
 }
 
+// The constants of rounds 0 to 13.
 const CONSTANTS: [u64; 14] = [
     0xAAAA_AAAA_AAAA_AA15,
     0xAAAA_AAAA_AAAA_AA1A,

@@ -40,6 +40,7 @@ impl Words {
     pub fn set_byte(&mut self, k: usize, b: u8)
         ensures { meant self.new ≡ slice_set (meant self.old) k b }
     {
+        // By number: of what is written through `get_mut` a proof knows nothing afterwards.
         let j = k / 8;
         if j < self.rows.len() {
             self.rows[j] = with_byte(self.rows[j], k % 8, b);

@@ -33,7 +33,7 @@ spread_twice p d a b =
     (d c) (d ((c + a) % 64)) (d ((c + b) % 64)) (d ((c + 2 * a) % 64)) (d (((c + a) % 64 + b) % 64)) (d ((c + 2 * b) % 64))))
 
 -- spread by 64 times anything, a row is itself
-pub spread_whole : (p : ℕ → ℕ) (a b c : ℕ) → c < 64 → spread p (64 * a) (64 * b) c ≡ p c
+spread_whole : (p : ℕ → ℕ) (a b c : ℕ) → c < 64 → spread p (64 * a) (64 * b) c ≡ p c
 spread_whole p a b c h =
     let ea : (c + 64 * a) % 64 ≡ c = omega arith in
     let eb : (c + 64 * b) % 64 ≡ c = omega arith in

@@ -1,11 +1,8 @@
-use Rattle.std.proofs.Common.{◌≡◌, ◌/◌, ◌%◌, ◌^◌, arith}
-use lib.Bits.{bit_and, and_mask}
+use Rattle.std.proofs.Common.{◌/◌, ◌^◌}
+use lib.Bits.{and_mask}
 use Rattle.sycon.specs.Permutation.{bit}
 use Rattle.columns.proofs.bits.digit.Goals as goal
 
-pub returns : goal.returns
+pub returns-clause-value : goal.returns-clause-value
 unfolding bit
-returns c =
-    let q = c.args.x / 2 ^ c.args.k in
-    let low : bit_and q 1 ≡ q % 2 = and_mask q 1 in
-    record { value = low; digit = omega arith }
+returns-clause-value c = and_mask (c.args.x / 2 ^ c.args.k) 1

@@ -2,12 +2,9 @@ use Rattle.std.proofs.Common.{◌≡◌, ℕ, ◌*◌, get_or, sym, ap, ◌∙�
 use Rattle.sycon.specs.Permutation.{bit}
 use Rattle.sycon.specs.Steps.{spread}
 use Rattle.sycon.proofs.Digits.{bit-digit}
-use Rattle.sycon.proofs.Spreading.{spread_whole, halved}
+use Rattle.sycon.proofs.Spreading.{halved}
 use Rattle.words.proofs.Halving.{amounts, left, half, next}
 use Rattle.words.proofs.row.Rotations.spread_back.Goals as goal
-
-pub loop-m-init : goal.loop-m-init
-loop-m-init c = spread_whole (bit c.args.x) c.args.self.0 c.args.self.1
 
 pub loop-m-preserved : goal.loop-m-preserved
 loop-m-preserved c k h =

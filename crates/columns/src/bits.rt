@@ -3,7 +3,7 @@
 ghost use Rattle.std.specs.Prelude.{◌≡◌, ℕ, ◌+◌, ◌*◌, ◌%◌, ◌<◌, map, ◌≢◌, slice_index, slice_set};
 ghost use Rattle.columns.specs.Columns.{column_bits, held};
 ghost use Rattle.std.specs.List.{range_with_len};
-ghost use Rattle.sycon.specs.Permutation.{arranged, bit, origin, substituted};
+ghost use Rattle.sycon.specs.Permutation.{arranged, bit, origin, sbox, substituted};
 ghost use Rattle.sycon.specs.Steps.{on_state, pl2_rule};
 ghost use Rattle.words.specs.Words.{meant, word_bits};
 
@@ -58,12 +58,22 @@ fn joined(digits: [u8; 5]) -> u8
         .fold(0, |column, digit| column << 1 | *digit)
 }
 
+// Digit j of column c of five words.
+fn word_digit(rows: &[u64; 5], c: usize, j: usize) -> u8
+    requires column { c < 64 }
+    requires word { j < 5 }
+    ensures value { result ≡ word_bits rows.now j c }
+    ensures digit { result < 2 }
+{
+    digit(rows[j], c)
+}
+
 // Column c of five words.
 fn column_of(rows: &[u64; 5], c: usize) -> u8
     requires { c < 64 }
     ensures { (j : ℕ) → j < 5 → bit result j ≡ word_bits rows.now j c }
 {
-    joined(array::from_fn(|j| digit(rows[j], c)))
+    joined(array::from_fn(|j| word_digit(rows, c, j)))
 }
 
 // Bit j of each column, as a word.
@@ -98,11 +108,18 @@ fn look_up(columns: &ColumnBytes, table: &[u8; 32]) -> ColumnBytes
     columns.map(|column| table[usize::from(column % 32)])
 }
 
+// The table is the definition's.
+fn sbox_table() -> &'static [u8; 32]
+    ensures { result.now ≡ sbox }
+{
+    &SBOX
+}
+
 // Step 1. This and its inverse differ in the table alone, and each has a promise of its own.
 fn substitute(columns: &ColumnBytes) -> ColumnBytes
     ensures { held result ≡ on_state substituted (held columns.now) }
 {
-    look_up(columns, &SBOX)
+    look_up(columns, sbox_table())
 }
 
 // Step 1, taken back.
@@ -129,12 +146,22 @@ fn origin_of(c: usize, j: usize) -> usize
     usize::from(pl2_table()[5 * c + j]) % 64
 }
 
+// Digit j of column c after step 4.
+fn arranged_digit(columns: &ColumnBytes, c: usize, j: usize) -> u8
+    requires column { c < 64 }
+    requires word { j < 5 }
+    ensures value { result ≡ column_bits columns.now j (origin j c) }
+    ensures digit { result < 2 }
+{
+    digit(u64::from(columns[origin_of(c, j)]), j)
+}
+
 // Column c after step 4.
 fn arranged_column(columns: &ColumnBytes, c: usize) -> u8
     requires { c < 64 }
     ensures { (j : ℕ) → j < 5 → bit result j ≡ column_bits columns.now j (origin j c) }
 {
-    joined(array::from_fn(|j| digit(u64::from(columns[origin_of(c, j)]), j)))
+    joined(array::from_fn(|j| arranged_digit(columns, c, j)))
 }
 
 // Step 4.

@@ -1,5 +1,5 @@
 -- The round constants as a list, and its beginnings.
-use Rattle.std.proofs.Common.{◌≡◌, ℕ, ◌+◌, ◌<◌, min, List, refl, [], ◌∷◌, ◌++◌, map, length, get_or, take, sym, ap, ◌∙◌, arith}
+use Rattle.std.proofs.Common.{◌≡◌, ℕ, ◌+◌, ◌<◌, min, List, refl, [], ◌∷◌, ◌++◌, map, length, get_or, take, sym, subst, ap, ◌∙◌, arith}
 use Rattle.std.specs.List.{range_with_len}
 use Rattle.std.proofs.lemmas.List.{length-append, length-take, get_or_at, get_or-take, take_at, take-take}
 use Rattle.std.proofs.lemmas.List.FromFn.{get_or-map-range_with_len}
@@ -15,10 +15,13 @@ Begins ks = ks ≡ take (length ks) constants
 length-first : (n : ℕ) → length (take n constants) ≡ min n 14
 length-first n = length-take n constants
 
-pub constant_at : (n i : ℕ) → i < length (take n constants) → get_or (take n constants) i 0 ≡ round_constant i
+constant_at : (n i : ℕ) → i < length (take n constants) → get_or (take n constants) i 0 ≡ round_constant i
 constant_at n i h =
     get_or-take n constants i 0 (omega (arith, length-first n))
     ∙ get_or-map-range_with_len round_constant 0 14 i i 0 (omega (arith, length-first n)) (omega arith)
+
+pub constant_in : (ks : List ℕ) (n i : ℕ) → ks ≡ take n constants → i < length ks → get_or ks i 0 ≡ round_constant i
+constant_in ks n i e h = ap (λ ks. get_or ks i 0) e ∙ constant_at n i (subst (λ ks. i < length ks) e h)
 
 pub begins : (ks : List ℕ) (n r : ℕ) → ks ≡ take n constants → n ≡ min r 14 → Begins ks × (length ks ≡ min r 14)
 begins ks n r e h =

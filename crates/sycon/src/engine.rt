@@ -46,5 +46,11 @@ pub trait TwoWay: Engine {
 pub fn bytes<E: Engine>(engine: &E) -> StateBytes
     ensures { result ≡ E.Engine.state engine.now }
 {
+    read(engine)
+}
+
+fn read<E: Engine>(engine: &E) -> StateBytes
+    ensures { result ≡ E.Engine.state engine.now }
+{
     array::from_fn(|k| engine.byte(k))
 }

@@ -30,6 +30,15 @@ impl Rotations {
         ROTATIONS[j]
     }
 
+    fn times(self, m: u32) -> Self
+        requires first { m * self.0 < 2 ^ 32 }
+        requires second { m * self.1 < 2 ^ 32 }
+        ensures first { result.0 ≡ m * self.0 }
+        ensures second { result.1 ≡ m * self.1 }
+    {
+        Rotations(m * self.0, m * self.1)
+    }
+
     // The word XORed with two left rotations of its row. Column 0 stands first in a row and is the lowest bit of the
     // number, so the number rotates to the right.
     fn spread(self, x: u64) -> u64
@@ -47,7 +56,7 @@ impl Rotations {
     {
         let mut row = x;
         for m in [32, 16, 8, 4, 2, 1] {
-            row = Rotations(m * self.0, m * self.1).spread(row);
+            row = self.times(m).spread(row);
         }
         row
     }

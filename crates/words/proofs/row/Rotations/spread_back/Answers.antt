@@ -13,7 +13,8 @@ loop-m-preserved c k h =
     let i = c.loop-m.m-index in
     let row = c.loop-m.row in
     ap (λ m. spread (bit c.spread-row.result) (m * a) (m * b) k) (next i c.loop-m-test.true)
-    ∙ halved a b (get_or amounts i 0) (bit c.args.x) (bit row) (bit c.spread-row.result) (bit-digit row) c.spread-row.ensures
+    ∙ halved a b (get_or amounts i 0) (bit c.args.x) (bit row) (bit c.spread-row.result) (bit-digit row)
+    (λ k h. c.spread-row.ensures k h ∙ ap₂ (λ a b. spread (bit row) a b k) c.times.ensures.first c.times.ensures.second)
     (λ k h. ap (λ m. spread (bit row) (m * a) (m * b) k) (sym (half i c.loop-m-test.true)) ∙ c.loop-m.invariant k h) k h
 
 pub returns : goal.returns

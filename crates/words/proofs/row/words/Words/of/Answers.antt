@@ -3,7 +3,7 @@ use Rattle.std.proofs.ByRecursion.{All-from_get_or}
 use Rattle.sycon.proofs.Made.{made}
 use Rattle.sycon.specs.Permutation.{bit, bits}
 use Rattle.words.proofs.Held.{held-loaded}
-use Rattle.words.proofs.row.words.Words.load.Goals as goal
+use Rattle.words.proofs.row.words.Words.of.Goals as goal
 
 pub returns : goal.returns
 returns c =

@@ -3,7 +3,7 @@ use Rattle.sycon.specs.Permutation.{added}
 use Rattle.sycon.specs.Steps.{on_state}
 use Rattle.sycon.proofs.Bijections.{added_twice}
 use Rattle.words.proofs.Held.{held_state, held_added}
-use Rattle.words.proofs.row.words.Words.add_constant.Goals as goal
+use Rattle.words.proofs.row.words.Words.with_constant.Goals as goal
 
 pub returns : goal.returns
 returns c =

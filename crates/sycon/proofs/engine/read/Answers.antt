@@ -1,7 +1,7 @@
 use Rattle.std.proofs.Common.{◌≡◌, get_or, rules}
 use Rattle.sycon.proofs.Made.{made}
 use Rattle.sycon.proofs.Packing.{same_states}
-use Rattle.sycon.proofs.engine.bytes.Goals as goal
+use Rattle.sycon.proofs.engine.read.Goals as goal
 
 pub returns : goal.returns
 returns g c =

@@ -2,7 +2,7 @@ use Rattle.std.proofs.Common.{◌≡◌, ◌*◌, ◌/◌, ◌%◌, ◌^◌, ◌
 use Rattle.std.proofs.lemmas.List.{get_or_past}
 use Rattle.words.specs.Words.{held}
 use Rattle.words.proofs.Held.{held_state, held_byte}
-use Rattle.words.proofs.row.words.Words.byte.Goals as goal
+use Rattle.words.proofs.row.words.Words.read.Goals as goal
 
 pub returns-in-Some : goal.returns-in-Some
 returns-in-Some c =

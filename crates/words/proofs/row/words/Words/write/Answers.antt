@@ -2,7 +2,7 @@ use Rattle.std.proofs.Common.{◌≡◌, length, sym, arith, rules}
 use Rattle.std.proofs.lemmas.List.{set_past}
 use Rattle.words.specs.Words.{held}
 use Rattle.words.proofs.Held.{held_state, held-set}
-use Rattle.words.proofs.row.words.Words.set_byte.Goals as goal
+use Rattle.words.proofs.row.words.Words.write.Goals as goal
 
 pub returns-then-j-lt5 : goal.returns-then-j-lt5
 returns-then-j-lt5 c =

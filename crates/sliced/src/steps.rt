@@ -52,7 +52,7 @@ fn inverse_sbox(words: &Words) -> Words
 type Term = (u32, u64);
 
 // For each word the terms (k, mask) of step 4: column c, where the mask has it, comes from column c + k.
-// The term (0, 0) adds nothing.
+// All have seven, in one array of fixed size; the term (0, 0) adds nothing.
 const ARRANGEMENT: [[Term; 7]; 5] = [
     [
         (3, 0x0000_E000_00FF_1F00),

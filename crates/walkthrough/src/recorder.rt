@@ -11,7 +11,7 @@ use sycon::engine::{Engine, StateBytes};
 /// How many events a recorder has room for.
 pub const ROOM: usize = 32;
 
-/// What was done to the state since it was last loaded or permuted.
+/// What was done to the state since it was last loaded or permuted. The domain is the number that was found in its last byte.
 #[derive(Clone, Copy)]
 pub enum Event {
     Loaded(StateBytes),

@@ -1,5 +1,6 @@
 -- A number shifted together from digits, the highest first.
-use Rattle.std.proofs.Common.{◌≡◌, ℕ, zero, suc, ◌+◌, ◌*◌, ◌%◌, ◌^◌, ◌<◌, ◌≤◌, List, [], ◌∷◌, length, get_or, fold, reverse, sym, ap, ◌∙◌, ap₂, one-add, arith, lit<}
+use Rattle.std.proofs.Common.{◌≡◌, ℕ, zero, suc, ◌+◌, ◌*◌, ◌%◌, ◌^◌, ◌<◌, ◌≤◌, List, [], ◌∷◌, length, get_or, fold, reverse, sym}
+use Rattle.std.proofs.Common.{ap, ◌∙◌, ap₂, one-add, arith, lit<}
 use lib.Bits.{bit_or, or_zero_l, or_zero_r}
 use Rattle.std.proofs.lemmas.List.{reverse-append}
 use Rattle.std.proofs.lemmas.List.Sums.{fold-append}

@@ -1,17 +1,21 @@
 -- A byte at a time or by blocks, it is the same.
-use Rattle.std.proofs.Common.{◌≡◌, ℕ, zero, suc, ◌+◌, ◌-◌, ◌%◌, ◌<◌, ◌≤◌, cond, eqb, ltb, List, [], ◌∷◌, ◌++◌, length, take, drop, get_or, replicate, sym, refl, ap, ◌∙◌, ap₂, ⊎_elim, arith}
+use Rattle.std.proofs.Common.{◌≡◌, ℕ, zero, suc, ◌+◌, ◌-◌, ◌%◌, ◌<◌, ◌≤◌, cond, eqb, ltb, List, [], ◌∷◌, ◌++◌, length, take, drop}
+use Rattle.std.proofs.Common.{get_or, replicate, sym, refl, ap, ◌∙◌, ap₂, ⊎_elim, arith}
 use lib.Bits.{bit_xor}
 use Rattle.std.proofs.lemmas.Bool.{cases_lt, eq-eqb, ne_eqb, lt-ltb, le-ltb}
 use Rattle.std.proofs.lemmas.List.{append_assoc, drop-append-le, length-append, take-append-le}
 use Rattle.sycon.specs.Permutation.{permuted}
 use Rattle.sponge.specs.Blocks.{absorbed, absorbed_all, blocks, marked, with_byte, with_bytes, with_domain}
-use Rattle.sponge.specs.Modes.{digest_start, hashing, keyed as keyed_by_blocks, label_pairs, labelled as labelled_by_blocks, messaged, ready as ready_by_blocks, seal_in, squeezed, started as started_by_blocks, text_pairs}
+use Rattle.sponge.specs.Modes.{digest_start, hashing, keyed as keyed_by_blocks, label_pairs, labelled as labelled_by_blocks}
+use Rattle.sponge.specs.Modes.{messaged, ready as ready_by_blocks, seal_in, squeezed, started as started_by_blocks, text_pairs}
 use Rattle.sponge.specs.Rates.{Setting}
-use Rattle.sponge.specs.Stream.{fed as fed_of, next as next_of, opened_from as opened_of, place_after as place_of, sealed_from as sealed_of, state_after as state_of}
+use Rattle.sponge.specs.Stream.{fed as fed_of, next as next_of, opened_from as opened_of, place_after as place_of}
+use Rattle.sponge.specs.Stream.{sealed_from as sealed_of, state_after as state_of}
 use Rattle.sponge.proofs.Blocks.{message_blocks, with_bytes-append, with_zeros}
 use Rattle.sponge.proofs.Folds.{absorbed-append, length-ready}
 use Rattle.sponge.proofs.Keys.{keyed_both}
-use Rattle.sealing.specs.Bytewise.{DigestsBytewise, SealsBytewise, ended, fed, keyed, labelled, message, next, opened_from, place_after, ready, sealed_from, started, state_after}
+use Rattle.sealing.specs.Bytewise.{DigestsBytewise, SealsBytewise, ended, fed, keyed, labelled, message, next, opened_from}
+use Rattle.sealing.specs.Bytewise.{place_after, ready, sealed_from, started, state_after}
 use Rattle.sealing.proofs.OpenedBlocks.{opened_stream}
 use Rattle.sealing.proofs.SealedBlocks.{sealed_blocks}
 

@@ -1,5 +1,6 @@
 -- Terms of rotations and masks that bring each column from its place.
-use Rattle.std.proofs.Common.{◌≡◌, ℕ, zero, suc, ◌+◌, ◌%◌, ◌^◌, ◌<◌, Bool, true, false, ◌&&◌, T, eqb, ltb, List, [], ◌∷◌, get_or, fold, refl, ap, ap₂, ◌∙◌, mod-eq_of_lt, arith, eqb→eq, ltb→lt}
+use Rattle.std.proofs.Common.{◌≡◌, ℕ, zero, suc, ◌+◌, ◌%◌, ◌^◌, ◌<◌, Bool, true, false, ◌&&◌, T, eqb, ltb, List, [], ◌∷◌, get_or}
+use Rattle.std.proofs.Common.{fold, refl, ap, ap₂, ◌∙◌, mod-eq_of_lt, arith, eqb→eq, ltb→lt}
 use lib.Bits.{bit_and, bit_xor, and_zero_r, xor_zero_r, and_mask}
 use Rattle.sycon.specs.Permutation.{bit}
 use Rattle.std.specs.Int.{w64, rotate_right}

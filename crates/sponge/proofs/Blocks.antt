@@ -1,8 +1,11 @@
 -- The stream is the definition by blocks.
-use Rattle.std.proofs.Common.{◌≡◌, ℕ, zero, suc, ◌+◌, ◌-◌, ◌*◌, ◌/◌, ◌%◌, ◌<◌, ◌≤◌, true, false, cond, ltb, List, [], ◌∷◌, ◌++◌, length, get_or, take, drop, set, replicate, sym, refl, ap, ◌∙◌, ap₂, suc-mul, zero-add, zero-mul, arith}
+use Rattle.std.proofs.Common.{◌≡◌, ℕ, zero, suc, ◌+◌, ◌-◌, ◌*◌, ◌/◌, ◌%◌, ◌<◌, ◌≤◌, true, false, cond, ltb, List, [], ◌∷◌, ◌++◌}
+use Rattle.std.proofs.Common.{length, get_or, take, drop, set, replicate, sym, refl, ap, ◌∙◌, ap₂, suc-mul, zero-add, zero-mul}
+use Rattle.std.proofs.Common.{arith}
 use lib.Bits.{xor_zero_r}
 use Rattle.std.proofs.lemmas.Nat.{div-add-mod', mod_below}
-use Rattle.std.proofs.lemmas.List.{set-get_or, take_all, take-append-drop, take-append-le, drop-append-le, length-append, length-drop, length-replicate, length-take-le}
+use Rattle.std.proofs.lemmas.List.{set-get_or, take_all, take-append-drop, take-append-le, drop-append-le, length-append}
+use Rattle.std.proofs.lemmas.List.{length-drop, length-replicate, length-take-le}
 use Rattle.std.proofs.lemmas.Bool.{lt-ltb, le-ltb}
 use Rattle.sycon.specs.Permutation.{permuted}
 use Rattle.sponge.specs.Blocks.{absorbed, absorbed_all, blocks, cut, marked, padded, with_byte, with_bytes, with_domain}

@@ -1,5 +1,6 @@
 -- The key's two blocks, as the code cuts them.
-use Rattle.std.proofs.Common.{◌≡◌, ℕ, ◌+◌, ◌-◌, ◌*◌, ◌%◌, ◌<◌, ◌≤◌, List, ◌∷◌, ◌++◌, length, take, drop, replicate, sym, refl, ap, ◌∙◌, ap₂, ⊎_elim, mod-eq_of_lt, arith, length-append}
+use Rattle.std.proofs.Common.{◌≡◌, ℕ, ◌+◌, ◌-◌, ◌*◌, ◌%◌, ◌<◌, ◌≤◌, List, ◌∷◌, ◌++◌, length, take, drop, replicate, sym, refl, ap}
+use Rattle.std.proofs.Common.{◌∙◌, ap₂, ⊎_elim, mod-eq_of_lt, arith, length-append}
 use native.Mathlib.Nat.{mod-eq-sub-mod}
 use Rattle.std.proofs.lemmas.List.{append_assoc, drop-append-le, length-drop, length-replicate, replicate-append-replicate, take-append-le}
 use Rattle.std.proofs.lemmas.Bool.{cases_lt}

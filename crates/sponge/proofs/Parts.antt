@@ -1,7 +1,9 @@
 -- Lists with a part written anew, or read off.
-use Rattle.std.proofs.Common.{◌≡◌, ℕ, ◌+◌, ◌-◌, ◌<◌, ◌≤◌, List, [], ◌∷◌, ◌++◌, length, get_or, take, drop, set, sym, ap, ◌∙◌, ap₂, arith, length-append, length-drop}
+use Rattle.std.proofs.Common.{◌≡◌, ℕ, ◌+◌, ◌-◌, ◌<◌, ◌≤◌, List, [], ◌∷◌, ◌++◌, length, get_or, take, drop, set, sym, ap, ◌∙◌, ap₂}
+use Rattle.std.proofs.Common.{arith, length-append, length-drop}
 use borrow.Rule.Slice.PartMut.{put_mid}
-use Rattle.std.proofs.lemmas.List.{append_assoc, append-nil, drop_all, drop_at, drop-drop, ext_get_or, get_or-drop, get_or-take, length-take, take_all, take_at, take_more_set}
+use Rattle.std.proofs.lemmas.List.{append_assoc, append-nil, drop_all, drop_at, drop-drop, ext_get_or, get_or-drop, get_or-take}
+use Rattle.std.proofs.lemmas.List.{length-take, take_all, take_at, take_more_set}
 use Rattle.sponge.specs.Stream.{with_part}
 
 pub put_part : (a : ℕ) (xs s ys : List ℕ) → ys ≡ xs → put_mid a ((a + length xs) - a) s ys ≡ with_part a xs s

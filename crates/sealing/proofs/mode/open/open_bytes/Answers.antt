@@ -18,7 +18,8 @@ loop-x-preserved g c =
     let x = bit_xor (get_or bytes i 0) c.byte.result in
     let e = c.feed-place.ensures.place in
     let f = c.feed-place.ensures.state in
-    let b : x ≡ bit_xor (get_or s p 0) (get_or bytes i 0) = ap (bit_xor (get_or bytes i 0)) c.byte.ensures ∙ xor_comm (get_or bytes i 0) (get_or s p 0) in
+    let b : x ≡ bit_xor (get_or s p 0) (get_or bytes i 0) =
+    ap (bit_xor (get_or bytes i 0)) c.byte.ensures ∙ xor_comm (get_or bytes i 0) (get_or s p 0) in
     let within : i < length bytes = omega arith in
     let d : drop (i + 1) (set bytes i x) ≡ drop (i + 1) bytes = drop-set-lt (i + 1) bytes i x (omega arith) in record {
       place = ap (λ ys. place_after t p' (opened_from t p' ys s')) d ∙ opened_place_more t p p' i x bytes s s' within e b f

@@ -10,4 +10,5 @@ returns c =
     let s = c.args.bytes.now in
     held-loaded (record { rows = c.from_fn.result }) s
     (record { whole = c.told-bytes; bytes = All-from_get_or (λ b. b < 256) s 0 (λ i h. c.fits-bytes i) })
-    (λ j k hj. made _ _ 0 (λ j x. (k : ℕ) → k < 64 → bit x k ≡ bits s j k) (λ j x f e. search rules) c.from_fn.result 5 c.from_fn.ensures.items j hj k)
+    (λ j k hj. made _ _ 0 (λ j x. (k : ℕ) → k < 64 → bit x k ≡ bits s j k)
+    (λ j x f e. search rules) c.from_fn.result 5 c.from_fn.ensures.items j hj k)

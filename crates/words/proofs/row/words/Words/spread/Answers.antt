@@ -11,4 +11,5 @@ unfolding diffused
 returns c =
     let ws = c.args.self.now.rows in
     held_step diffused respects-diffused ws c.from_fn.result
-    (λ j k hj. made _ _ 0 (λ j x. (k : ℕ) → k < 64 → bit x k ≡ diffused (word_bits ws) j k) (λ j x f e. search rules) c.from_fn.result 5 c.from_fn.ensures.items j hj k)
+    (λ j k hj. made _ _ 0 (λ j x. (k : ℕ) → k < 64 → bit x k ≡ diffused (word_bits ws) j k)
+    (λ j x f e. search rules) c.from_fn.result 5 c.from_fn.ensures.items j hj k)

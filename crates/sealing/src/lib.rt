@@ -8,4 +8,4 @@ pub use mode::digest::digest;
 pub use mode::open::open;
 pub use mode::seal::seal;
 pub use mode::under::Under;
-pub use sponge::{Rate, Rate64, Rate96, absorb};
+pub use sponge::{Domain, Rate, Rate64, Rate96, absorb};

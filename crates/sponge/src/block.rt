@@ -29,25 +29,32 @@ fn add_bytes<E: Engine>(engine: &mut E, bytes: &[u8])
     }
 }
 
-// A domain is a number and no enum: parts of a message share one, and `absorb` takes them all. Its three bits stand at the end
-// of the last byte, the unit last.
-fn domain_byte(domain: u8) -> u8
-    ensures { result ≡ domain_byte_of domain }
-{
-    domain % 2 * 128 + domain / 2 % 2 * 64 + domain / 4 % 2 * 32
+/// A domain: the number that tells to which part of a message a block belongs. Parts share numbers, so it is no enum; of a number
+/// above 7 the lowest three bits count.
+#[derive(Clone, Copy, Debug, PartialEq, Eq)]
+pub struct Domain(pub u8);
+
+impl Domain {
+    // Its three bits as they stand at the end of the last byte, the unit last.
+    fn byte(self) -> u8
+        ensures { result ≡ domain_byte_of self.0 }
+    {
+        let Domain(d) = self;
+        d % 2 * 128 + d / 2 % 2 * 64 + d / 4 % 2 * 32
+    }
 }
 
-fn add_domain<E: Engine>(engine: &mut E, domain: u8)
-    ensures { E.state engine.new ≡ with_domain domain (E.state engine.old) }
+fn add_domain<E: Engine>(engine: &mut E, domain: Domain)
+    ensures { E.state engine.new ≡ with_domain domain.0 (E.state engine.old) }
 {
-    add_byte(engine, 39, domain_byte(domain));
+    add_byte(engine, 39, domain.byte());
 }
 
 /// Absorbs a block of its own: XORs it into the first bytes of the state and the domain into the last three bits, and
-/// permutes. Bytes past the state's 40 go nowhere, and of a domain above 7 the lowest three bits count.
-pub fn absorb<E: Engine>(engine: &mut E, block: &[u8], domain: u8, rounds: usize)
+/// permutes. Bytes past the state's 40 go nowhere.
+pub fn absorb<E: Engine>(engine: &mut E, block: &[u8], domain: Domain, rounds: usize)
     ensures { E.state engine.new
-        ≡ absorbed rounds block.now domain (E.state engine.old) }
+        ≡ absorbed rounds block.now domain.0 (E.state engine.old) }
 {
     add_bytes(engine, block);
     add_domain(engine, domain);
@@ -55,9 +62,9 @@ pub fn absorb<E: Engine>(engine: &mut E, block: &[u8], domain: u8, rounds: usize
 }
 
 // The domain of a block whose bytes are in, and its rounds.
-fn end_block<R: Rate, E: Engine>(engine: &mut E, domain: u8)
+fn end_block<R: Rate, E: Engine>(engine: &mut E, domain: Domain)
     ensures { E.state engine.new
-        ≡ permuted R.setting.rounds (with_domain domain (E.state engine.old)) }
+        ≡ permuted R.setting.rounds (with_domain domain.0 (E.state engine.old)) }
 {
     add_domain(engine, domain);
     engine.turn(R::ROUNDS);

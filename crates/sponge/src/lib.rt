@@ -6,8 +6,8 @@ mod block;
 pub mod examples;
 mod rate;
 
-pub use block::absorb;
 pub use block::keyed::{absorb_label, finish, start};
 pub use block::squeeze::squeeze;
 pub use block::stream::{absorb_message, end, feed};
+pub use block::{Domain, absorb};
 pub use rate::{Rate, Rate64, Rate96};

@@ -5,7 +5,7 @@
 use hex::encode_upper;
 use published::{KEY, LABEL, Sealed, TEXT};
 use refusal::Refusal;
-use sealing::{Rate, Rate64, Rate96, Under, absorb, digest, seal};
+use sealing::{Domain, Rate, Rate64, Rate96, Under, absorb, digest, seal};
 use sliced::Sliced;
 use std::{array, fmt, io};
 use sycon::engine;
@@ -84,17 +84,17 @@ fn seal_with_slips(engine: &mut Sliced) -> Sealed {
     let mut bytes = [0; TEXT.len()];
     engine.load(&loaded());
     engine.turn(14);
-    absorb(engine, &KEY[..12], 0, 14);
-    absorb(engine, &padded(&[a, b, c, d]), 1, 14);
-    absorb(engine, &LABEL[..12], 1, 9);
-    absorb(engine, &padded(&LABEL[8..12]), 2, 9);
+    absorb(engine, &KEY[..12], Domain(0), 14);
+    absorb(engine, &padded(&[a, b, c, d]), Domain(1), 14);
+    absorb(engine, &LABEL[..12], Domain(1), 9);
+    absorb(engine, &padded(&LABEL[8..12]), Domain(2), 9);
     for (text, sealed) in TEXT.chunks(12).zip(bytes.chunks_mut(12)) {
-        let domain = if text.len() == 12 { 2 } else { 4 };
+        let domain = Domain(if text.len() == 12 { 2 } else { 4 });
         seal_block(engine, text, sealed);
         absorb(engine, &padded(text), domain, 9);
     }
-    absorb(engine, &KEY[..12], 4, 14);
-    absorb(engine, &[a ^ 1, b, c, d], 4, 14);
+    absorb(engine, &KEY[..12], Domain(4), 14);
+    absorb(engine, &[a ^ 1, b, c, d], Domain(4), 14);
     Sealed {
         bytes,
         tag: array::from_fn(|k| engine.byte(16 + k)),

@@ -7,7 +7,7 @@ mod shown;
 
 use recorder::{Event, Recorder};
 use refusal::Refusal;
-use sealing::{Rate64, Under, open, seal};
+use sealing::{Domain, Rate64, Under, open, seal};
 use shown::{Braille, Hex};
 use sliced::Sliced;
 use std::{fmt, io};
@@ -138,10 +138,10 @@ fn print_event(rt: &HostRuntime, part: Part, event: &Event) -> io::Result<()> {
             block,
             domain,
             rounds,
-        } if *block == [0; 8] && *domain == 0 => println!(rt; "{rounds} rounds"),
+        } if *block == [0; 8] && *domain == Domain(0) => println!(rt; "{rounds} rounds"),
         Event::Permuted {
             block,
-            domain,
+            domain: Domain(domain),
             rounds,
         } => println!(rt;
             "{part} block absorbed: {}, domain {domain}, {rounds} rounds",

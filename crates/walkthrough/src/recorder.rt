@@ -5,19 +5,20 @@ ghost use Rattle.std.proofs.Common.{rules};
 ghost use Rattle.arrayvec.specs.ArrayVec.{array_vec_len};
 
 use arrayvec::ArrayVec;
+use sealing::Domain;
 use std::array;
 use sycon::engine::{Engine, StateBytes};
 
 /// How many events a recorder has room for.
 pub const ROOM: usize = 32;
 
-/// What was done to the state since it was last loaded or permuted. The domain is the number that was found in its last byte.
+/// What was done to the state since it was last loaded or permuted.
 #[derive(Clone, Copy)]
 pub enum Event {
     Loaded(StateBytes),
     Permuted {
         block: [u8; 8],
-        domain: u8,
+        domain: Domain,
         rounds: usize,
     },
 }
@@ -112,6 +113,6 @@ impl<E: Engine> Recorder<E> {
 }
 
 // The domain whose three bits stand at the end of this byte, the unit last.
-fn domain_of(byte: u8) -> u8 {
-    byte.reverse_bits() & 7
+fn domain_of(byte: u8) -> Domain {
+    Domain(byte.reverse_bits() & 7)
 }

@@ -6,7 +6,7 @@ ghost use Rattle.sponge.specs.Modes.{digest_start, hashing, hashing_sets};
 ghost use Rattle.std.specs.Prelude.{◌≡◌};
 
 use refusal::Refusal;
-use sponge::{Rate, absorb_message, squeeze};
+use sponge::{Domain, Rate, absorb_message, squeeze};
 use sycon::engine::{Engine, StateBytes};
 
 /// Writes the digest of `text`, 32 bytes, to `place`.
@@ -21,7 +21,7 @@ pub fn digest<E: Engine>(engine: &mut E, text: &[u8], place: &mut [u8]) -> Resul
     }
     engine.load(&start_bytes());
     engine.turn(14);
-    absorb_message::<Hashing, E>(engine, text, 0, 0);
+    absorb_message::<Hashing, E>(engine, text, Domain(0), Domain(0));
     place.copy_from_slice(&squeeze(engine));
     Ok(())
 }

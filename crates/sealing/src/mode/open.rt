@@ -11,7 +11,7 @@ ghost use Rattle.std.specs.Str.{bytes_eq};
 
 use super::under::{Keyed, Under};
 use refusal::Refusal;
-use sponge::{Rate, absorb_label, end, feed, finish, start};
+use sponge::{Domain, Rate, absorb_label, end, feed, finish, start};
 use sycon::engine::Engine;
 
 /// Opens `sealed`: its text goes to the front of `text` if `tag` is its seal. If it is not, zeros go there.
@@ -143,7 +143,7 @@ fn open_text<R: Rate, E: Engine>(engine: &mut E, bytes: &mut [u8])
         (E.state engine.old) }
 {
     let place = open_bytes::<R, E>(engine, bytes);
-    end::<R, E>(engine, place, 4);
+    end::<R, E>(engine, place, Domain(4));
 }
 
 fn open_bytes<R: Rate, E: Engine>(engine: &mut E, bytes: &mut [u8]) -> usize
@@ -157,7 +157,7 @@ fn open_bytes<R: Rate, E: Engine>(engine: &mut E, bytes: &mut [u8]) -> usize
     let mut place = 0;
     for x in bytes.iter_mut() {
         *x ^= engine.byte(place);
-        place = feed::<R, E>(engine, place, *x, 2);
+        place = feed::<R, E>(engine, place, *x, Domain(2));
     }
     place
 }

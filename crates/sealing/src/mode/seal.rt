@@ -9,7 +9,7 @@ ghost use Rattle.sponge.specs.Stream.{message, place_after, sealed_from, state_a
 
 use super::under::{Keyed, Under};
 use refusal::Refusal;
-use sponge::{Rate, absorb_label, end, feed, finish, start};
+use sponge::{Domain, Rate, absorb_label, end, feed, finish, start};
 use sycon::engine::Engine;
 
 /// Seals `text`: its sealed bytes go to the front of `sealed`, its seal to `tag`.
@@ -61,7 +61,7 @@ fn seal_stream<R: Rate, E: Engine>(engine: &mut E, bytes: &mut [u8])
     ensures state { E.state engine.new ≡ message R.setting 2 4 bytes.old (E.state engine.old) }
 {
     let place = seal_bytes::<R, E>(engine, bytes);
-    end::<R, E>(engine, place, 4);
+    end::<R, E>(engine, place, Domain(4));
 }
 
 fn seal_bytes<R: Rate, E: Engine>(engine: &mut E, bytes: &mut [u8]) -> usize
@@ -72,7 +72,7 @@ fn seal_bytes<R: Rate, E: Engine>(engine: &mut E, bytes: &mut [u8]) -> usize
     let mut place = 0;
     for x in bytes.iter_mut() {
         let y = engine.byte(place) ^ *x;
-        place = feed::<R, E>(engine, place, *x, 2);
+        place = feed::<R, E>(engine, place, *x, Domain(2));
         *x = y;
     }
     place

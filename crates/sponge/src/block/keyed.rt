@@ -4,6 +4,7 @@ ghost use Rattle.sponge.specs.Modes.{keyed as under_key, labelled, seal_in, star
 ghost use Rattle.std.specs.Prelude.{◌≡◌, ◌∷◌, ◌++◌, replicate};
 
 use super::super::rate::Rate;
+use super::Domain;
 use super::stream::absorb_message;
 use sycon::engine::{Engine, StateBytes};
 
@@ -13,7 +14,7 @@ pub fn start<R: Rate, E: Engine>(engine: &mut E, key: &[u8; 16], nonce: &[u8; 16
 {
     engine.load(&start_bytes(key, nonce, &R::INITIAL_VECTOR.to_le_bytes()));
     engine.turn(14);
-    absorb_key::<R, E>(engine, key, 0, 1);
+    absorb_key::<R, E>(engine, key, Domain(0), Domain(1));
 }
 
 /// Absorbs a label. An empty one has no block.
@@ -21,7 +22,7 @@ pub fn absorb_label<R: Rate, E: Engine>(engine: &mut E, label: &[u8])
     ensures { E.state engine.new ≡ labelled R.setting label.now (E.state engine.old) }
 {
     if !label.is_empty() {
-        absorb_message::<R, E>(engine, label, 1, 2);
+        absorb_message::<R, E>(engine, label, Domain(1), Domain(2));
     }
 }
 
@@ -30,16 +31,16 @@ pub fn finish<R: Rate, E: Engine>(engine: &mut E, key: &[u8; 16]) -> [u8; 16]
     ensures tag { result ≡ seal_in R.setting key.now (E.state engine.old) }
     ensures clear { E.state engine.new ≡ replicate 40 0 }
 {
-    absorb_key::<R, E>(engine, key, 4, 4);
+    absorb_key::<R, E>(engine, key, Domain(4), Domain(4));
     let tag = super::read::<16, E>(engine, 16);
     engine.load(&[0; 40]);
     tag
 }
 
 // Both key blocks. Two blocks of 8 bytes end where the key does, and so before the padding.
-fn absorb_key<R: Rate, E: Engine>(engine: &mut E, key: &[u8; 16], first: u8, second: u8)
+fn absorb_key<R: Rate, E: Engine>(engine: &mut E, key: &[u8; 16], first: Domain, second: Domain)
     ensures { E.state engine.new
-        ≡ under_key R.setting first second key.now (E.state engine.old) }
+        ≡ under_key R.setting first.0 second.0 key.now (E.state engine.old) }
 {
     let padded = padded_key(key);
     let block = R::BLOCK;

@@ -5,6 +5,7 @@
 
 ghost use Rattle.bench.specs.Codes.{code as code_of_lem, coded};
 ghost use Rattle.columns.specs.Engine.{state_of as columns_state};
+ghost use Rattle.sealing.specs.Bytewise.{SealsBytewise};
 ghost use Rattle.sealing.specs.Calls.{sealing as sealing_call};
 ghost use Rattle.sliced.specs.Sliced.{state_of as sliced_state};
 ghost use Rattle.sponge.specs.Rates.{narrow};
@@ -56,9 +57,10 @@ pub extern "C" fn sliced_seal(
     sealed: &mut [u8],
     tag: &mut [u8],
 ) -> u8
-    ensures { (result, sealed.new, tag.new, sliced_state engine.new)
+    ensures outcome { (result, sealed.new, tag.new, sliced_state engine.new)
         ≡ coded (sealing_call narrow key.now nonce.now label.now text.now
         sealed.old tag.old (sliced_state engine.old)) }
+    ensures bytewise { SealsBytewise narrow key.now nonce.now label.now }
 {
     let under = Under { key, nonce, label };
     code(seal::<Rate64, Sliced>(engine, under, text, sealed, tag))

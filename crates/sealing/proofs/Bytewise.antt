@@ -1,13 +1,17 @@
 -- A byte at a time or by blocks, it is the same.
-use Rattle.std.proofs.Common.{◌≡◌, ℕ, zero, suc, ◌+◌, ◌-◌, ◌%◌, ◌<◌, ◌≤◌, cond, eqb, ltb, List, [], ◌∷◌, ◌++◌, length, take, drop}
+use Rattle.std.proofs.Common.{◌≡◌, ℕ, zero, suc, ◌+◌, ◌-◌, ◌%◌, ◌<◌, ◌≤◌, Bool, cond, ◌&&◌, eqb, ltb, List, [], ◌∷◌, ◌++◌, length, take, drop}
+use Rattle.std.proofs.Common.{Ok, Err}
 use Rattle.std.proofs.Common.{get_or, replicate, sym, refl, ap, ◌∙◌, ap₂, ⊎_elim, arith}
 use lib.Bits.{bit_xor}
-use Rattle.std.proofs.lemmas.Bool.{cases_lt, eq-eqb, ne_eqb, lt-ltb, le-ltb}
+use Rattle.std.proofs.lemmas.Bool.{cases_eq, cases_lt, eq-eqb, ne_eqb, lt-ltb, le-ltb}
 use Rattle.std.proofs.lemmas.List.{append_assoc, drop-append-le, length-append, take-append-le}
+use Rattle.std.specs.Str.{bytes_eq}
+use Rattle.refusal.specs.declared.Refusal.TheVariants.{Measure, BrokenSeal}
 use Rattle.sycon.specs.Permutation.{permuted}
 use Rattle.sponge.specs.Blocks.{absorbed, absorbed_all, blocks, marked, with_byte, with_bytes, with_domain}
 use Rattle.sponge.specs.Modes.{digest_start, hashing, keyed as keyed_by_blocks, label_pairs, labelled as labelled_by_blocks}
-use Rattle.sponge.specs.Modes.{messaged, ready as ready_by_blocks, seal_in, squeezed, started as started_by_blocks, text_pairs}
+use Rattle.sponge.specs.Modes.{opened_bytes as opened_by_blocks, seal_of as seal_by_blocks, sealed_bytes as sealed_by_blocks}
+use Rattle.sponge.specs.Modes.{messaged, ready as ready_by_blocks, seal_in, sealed_in, squeezed, started as started_by_blocks, text_pairs}
 use Rattle.sponge.specs.Rates.{Setting}
 use Rattle.sponge.specs.Stream.{fed as fed_of, next as next_of, opened_from as opened_of, place_after as place_of}
 use Rattle.sponge.specs.Stream.{sealed_from as sealed_of, state_after as state_of}
@@ -15,7 +19,7 @@ use Rattle.sponge.proofs.Blocks.{message_blocks, with_bytes-append, with_zeros}
 use Rattle.sponge.proofs.Folds.{absorbed-append, length-ready}
 use Rattle.sponge.proofs.Keys.{keyed_both}
 use Rattle.sealing.specs.Bytewise.{DigestsBytewise, SealsBytewise, ended, fed, keyed, labelled, message, next, opened_from}
-use Rattle.sealing.specs.Bytewise.{place_after, ready, sealed_from, started, state_after}
+use Rattle.sealing.specs.Bytewise.{opened_bytes, place_after, ready, seal_of, sealed_bytes, sealed_from, started, state_after}
 use Rattle.sealing.proofs.OpenedBlocks.{opened_stream}
 use Rattle.sealing.proofs.SealedBlocks.{sealed_blocks}
 
@@ -73,7 +77,7 @@ module _ (t : Setting) where
       (ap₂ (λ q u. opened_of t q ys u) (next_same t p h) (fed_same t p h 2 x s)
       ∙ opened_same (next t p) ys (fed t 2 p x s) (next_within t p h))
 
-  message_same : (d e : ℕ) (xs s : List ℕ) → 0 < t.block
+  pub message_same : (d e : ℕ) (xs s : List ℕ) → 0 < t.block
       → absorbed_all t.rounds (marked d e (blocks t.block xs)) s ≡ message t d e xs s
   message_same d e xs s pos =
       sym (message_blocks t d e pos xs s) ∙ ap₂ (λ p u. ended t e p u) (place_same 0 xs pos) (state_same d 0 xs s pos)
@@ -127,6 +131,10 @@ module _ (t : Setting) (low : 8 ≤ t.block) (high : t.block ≤ 12) where
   labelled_same [] s = refl
   labelled_same (x ∷ xs) s = message_same t 1 2 (x ∷ xs) s pos
 
+  -- sealed bytes, in any state
+  pub sealed_blocks_bytewise : (text s : List ℕ) → length s ≡ 40 → sealed_from t 0 text s ≡ sealed_in t text s
+  sealed_blocks_bytewise text s h = sym (sealed_same t 0 text s pos) ∙ sealed_blocks t pos small text s h
+
   module _ (key nonce label : List ℕ) (l : length key ≡ 16) where
     abbrev s : List ℕ
     s = ready_by_blocks t key nonce label
@@ -139,16 +147,46 @@ module _ (t : Setting) (low : 8 ≤ t.block) (high : t.block ≤ 12) where
         absorbed-append t.rounds (label_pairs t.block label) (text_pairs t.block text) (started_by_blocks t key nonce)
         ∙ message_same t 2 4 text s pos ∙ ap (message t 2 4 text) ready_same
 
+    whole : length s ≡ 40
+    whole = length-ready t key nonce label
+
+    sealed_bytes_same : (text : List ℕ) → sealed_by_blocks t key nonce label text ≡ sealed_bytes t key nonce label text
+    sealed_bytes_same text = sym (sealed_blocks_bytewise text s whole) ∙ ap (sealed_from t 0 text) ready_same
+
+    opened_bytes_same : (ys : List ℕ) → opened_by_blocks t key nonce label ys ≡ opened_bytes t key nonce label ys
+    opened_bytes_same ys = sym (opened_stream t pos small ys s whole) ∙ opened_same t 0 ys s pos ∙ ap (opened_from t 0 ys) ready_same
+
+    seal_of_same : (text : List ℕ) → seal_by_blocks t key nonce label text ≡ seal_of t key nonce label text
+    seal_of_same text =
+        ap (seal_in t key) (seal_same text)
+        ∙ ap (λ u. take 16 (drop 16 u)) (keyed_same 4 4 key (message t 2 4 text (ready t key nonce label)) l)
+
+  module _ (key nonce label : List ℕ) where
+    -- a key of another length is refused either way
+    measured_first : (X : Type 0) (rest : Bool) (x y z : X) → (length key ≡ 16 → x ≡ y)
+        → cond (eqb (length key) 16 && rest) x z ≡ cond (eqb (length key) 16 && rest) y z
+    measured_first X rest x y z e =
+        ⊎_elim
+        (λ l. ap (λ w. cond (eqb (length key) 16 && rest) w z) (e l))
+        (λ n. let no = ne_eqb (length key) 16 n in ap (λ b. cond (b && rest) x z) no ∙ sym (ap (λ b. cond (b && rest) y z) no))
+        (cases_eq (length key) 16)
+
     pub seals_bytewise : SealsBytewise t key nonce label
-    seals_bytewise =
-        let whole : length s ≡ 40 = length-ready t key nonce label in record {
-          sealed = λ text. sym (sealed_blocks t pos small text s whole) ∙ sealed_same t 0 text s pos
-              ∙ ap (sealed_from t 0 text) ready_same;
-          opened = λ ys. sym (opened_stream t pos small ys s whole) ∙ opened_same t 0 ys s pos ∙ ap (opened_from t 0 ys) ready_same;
-          seal = λ text. ap (seal_in t key) (seal_same text)
-              ∙ ap (λ u. take 16 (drop 16 u)) (keyed_same 4 4 key (message t 2 4 text (ready t key nonce label)) l);
-        }
+    seals_bytewise = record {
+      seals = λ text place seal state.
+          measured_first _ _ _ _ _
+          (λ l. ap₂ (λ x y. (Ok tt, x ++ drop (length text) place, y, replicate 40 0))
+          (sealed_bytes_same key nonce label l text) (seal_of_same key nonce label l text));
+      opens = λ sealed seal place state.
+          measured_first _ _ _ _ _
+          (λ l.
+          let o = opened_bytes_same key nonce label l sealed in
+          ap₂ (λ x y. cond (bytes_eq seal y) (Ok tt, x ++ drop (length sealed) place, replicate 40 0)
+          (Err BrokenSeal, replicate (length sealed) 0 ++ drop (length sealed) place, replicate 40 0)) o
+          (seal_of_same key nonce label l (opened_by_blocks t key nonce label sealed) ∙ ap (seal_of t key nonce label) o));
+    }
 
 pub digests_bytewise : (text : List ℕ) → DigestsBytewise text
-digests_bytewise text =
-    ap (squeezed 4) (message_same hashing 0 0 text (permuted 14 digest_start) (omega arith))
+digests_bytewise text place state =
+    ap (λ x. cond (eqb (length place) 32) (Ok tt, squeezed 4 x, replicate 40 0) (Err Measure, place, state))
+    (message_same hashing 0 0 text (permuted 14 digest_start) (omega arith))

@@ -1,13 +1,16 @@
 -- The same calls, a byte at a time: nothing of a text has to be kept to go on sealing it, and no block of it is held.
 -- A byte goes to a place in the block. Where it fills the block, the domain is added, the permutation follows, and the
 -- next byte goes to place 0. A text ends with a 1 bit at the place that would be next, under the last domain.
-use Rattle.std.specs.Prelude.{◌≡◌, ℕ, ◌+◌, cond, List, [], ◌∷◌, ◌++◌, take, drop, ◌==◌, bit_xor, slice_index}
+use Rattle.std.specs.Prelude.{◌≡◌, ℕ, ◌+◌, cond, List, [], ◌∷◌, ◌++◌, length, take, drop, replicate}
+use Rattle.std.specs.Prelude.{Ok, Err, ◌==◌, bit_xor, slice_index}
+use Rattle.std.specs.Str.{bytes_eq}
+use Rattle.refusal.specs.declared.Refusal.TheVariants.{Measure, BrokenSeal}
 use Rattle.sycon.specs.Permutation.{permuted}
 use Rattle.sponge.specs.Blocks.{absorbed, with_byte, with_domain}
 use Rattle.sponge.specs.Modes.{digest_start, hashing, squeezed}
-use Rattle.sponge.specs.Modes.{digest_of as digest_by_blocks, opened_bytes as opened_by_blocks}
-use Rattle.sponge.specs.Modes.{seal_of as seal_by_blocks, sealed_bytes as sealed_by_blocks}
 use Rattle.sponge.specs.Rates.{Setting}
+use Rattle.sealing.specs.Calls.{Answer, measured}
+use Rattle.sealing.specs.Calls.{digesting as digesting_by_blocks, opening as opening_by_blocks, sealing as sealing_by_blocks}
 
 -- the place after place p, and the state after byte x went to place p
 abbrev pub next : Setting → ℕ → ℕ
@@ -78,11 +81,34 @@ seal_of t key nonce label text = seal_from t key text (ready t key nonce label)
 abbrev pub digest_of : List ℕ → List ℕ
 digest_of text = squeezed 4 (message hashing 0 0 text (permuted 14 digest_start))
 
--- under a key of 16 bytes, both ways give the same for every text
+-- seal: the answer, the place of the sealed bytes, the place of the seal, the engine
+abbrev pub sealing : Setting → List ℕ → List ℕ → List ℕ → List ℕ → List ℕ → List ℕ → List ℕ
+    → Answer × List ℕ × List ℕ × List ℕ
+sealing t key nonce label text place seal state =
+    cond (measured (length key) (length nonce) (length seal) (length text) (length place))
+    (Ok tt, sealed_bytes t key nonce label text ++ drop (length text) place, seal_of t key nonce label text, replicate 40 0)
+    (Err Measure, place, seal, state)
+
+-- open: the answer, the place of the text, the engine
+abbrev pub opening : Setting → List ℕ → List ℕ → List ℕ → List ℕ → List ℕ → List ℕ → List ℕ → Answer × List ℕ × List ℕ
+opening t key nonce label sealed seal place state =
+    cond (measured (length key) (length nonce) (length seal) (length sealed) (length place))
+    (cond (bytes_eq seal (seal_of t key nonce label (opened_bytes t key nonce label sealed)))
+    (Ok tt, opened_bytes t key nonce label sealed ++ drop (length sealed) place, replicate 40 0)
+    (Err BrokenSeal, replicate (length sealed) 0 ++ drop (length sealed) place, replicate 40 0))
+    (Err Measure, place, state)
+
+-- digest: the answer, the place of the digest, the engine
+abbrev pub digesting : List ℕ → List ℕ → List ℕ → Answer × List ℕ × List ℕ
+digesting text place state =
+    cond (length place == 32) (Ok tt, digest_of text, replicate 40 0) (Err Measure, place, state)
+
+-- whatever a call is given, both ways it answers the same and leaves the same
 pub record SealsBytewise (t : Setting) (key nonce label : List ℕ) : Type 0 where
-  pub sealed : (text : List ℕ) → sealed_by_blocks t key nonce label text ≡ sealed_bytes t key nonce label text
-  pub opened : (sealed : List ℕ) → opened_by_blocks t key nonce label sealed ≡ opened_bytes t key nonce label sealed
-  pub seal : (text : List ℕ) → seal_by_blocks t key nonce label text ≡ seal_of t key nonce label text
+  pub seals : (text place seal state : List ℕ)
+      → sealing_by_blocks t key nonce label text place seal state ≡ sealing t key nonce label text place seal state
+  pub opens : (sealed seal place state : List ℕ)
+      → opening_by_blocks t key nonce label sealed seal place state ≡ opening t key nonce label sealed seal place state
 
 abbrev pub DigestsBytewise : List ℕ → Type 0
-DigestsBytewise text = digest_by_blocks text ≡ digest_of text
+DigestsBytewise text = (place state : List ℕ) → digesting_by_blocks text place state ≡ digesting text place state

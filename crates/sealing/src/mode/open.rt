@@ -29,8 +29,7 @@ pub fn open<R: Rate, E: Engine>(
         (length sealed.now) (length text.old) ≡ true
         → Opened R.setting under.entry.key.now under.entry.nonce.now under.entry.label.now sealed.now
         tag.now result text.new }
-    ensures bytewise { length under.entry.key.now ≡ 16
-        → SealsBytewise R.setting under.entry.key.now under.entry.nonce.now under.entry.label.now }
+    ensures bytewise { SealsBytewise R.setting under.entry.key.now under.entry.nonce.now under.entry.label.now }
 {
     under.seals_bytewise::<R>();
     open_exactly::<R, E>(engine, under, sealed, tag, text)

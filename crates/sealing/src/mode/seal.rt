@@ -23,8 +23,7 @@ pub fn seal<R: Rate, E: Engine>(
     ensures outcome { (result, sealed.new, tag.new, E.state engine.new)
         ≡ sealing R.setting under.entry.key.now under.entry.nonce.now under.entry.label.now text.now
         sealed.old tag.old (E.state engine.old) }
-    ensures bytewise { length under.entry.key.now ≡ 16
-        → SealsBytewise R.setting under.entry.key.now under.entry.nonce.now under.entry.label.now }
+    ensures bytewise { SealsBytewise R.setting under.entry.key.now under.entry.nonce.now under.entry.label.now }
 {
     under.seals_bytewise::<R>();
     let keyed = under.measure(tag, text.len(), sealed.len())?;

@@ -52,7 +52,6 @@ impl<'a> Under<'a> {
 
     // Sealing by blocks is sealing a byte at a time.
     pub(crate) fn seals_bytewise<R: Rate>(self)
-        ensures { length self.entry.key.now ≡ 16
-            → SealsBytewise R.setting self.entry.key.now self.entry.nonce.now self.entry.label.now }
+        ensures { SealsBytewise R.setting self.entry.key.now self.entry.nonce.now self.entry.label.now }
     {}
 }

@@ -39,8 +39,7 @@ impl Domain {
     fn byte(self) -> u8
         ensures { result ≡ domain_byte_of self.0 }
     {
-        let Domain(d) = self;
-        d % 2 * 128 + d / 2 % 2 * 64 + d / 4 % 2 * 32
+        self.0.reverse_bits() & 0xE0
     }
 }
 

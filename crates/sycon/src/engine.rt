@@ -49,6 +49,7 @@ pub fn bytes<E: Engine>(engine: &E) -> StateBytes
     read(engine)
 }
 
+// Apart, so that a slip in `bytes` is refused in the code.
 fn read<E: Engine>(engine: &E) -> StateBytes
     ensures { result ≡ E.Engine.state engine.now }
 {

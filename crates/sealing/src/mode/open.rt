@@ -119,7 +119,8 @@ fn same_bytes(a: &[u8], b: &[u8]) -> bool
     a == b
 }
 
-// The bytes become the opened ones; gives the seal of these.
+// The bytes become the opened ones; gives the seal of these. It is sealing but that the state is given what comes out and not what
+// goes in: so each of these functions has a promise of its own, and a twin in `seal`.
 fn open_in_place<R: Rate, E: Engine>(engine: &mut E, keyed: Keyed<'_>, bytes: &mut [u8]) -> [u8; 16]
     ensures opened { bytes.new
         ≡ opened_bytes R.setting keyed.entry.key.now keyed.entry.nonce.now keyed.entry.label.now bytes.old }

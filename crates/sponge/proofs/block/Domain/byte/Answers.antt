@@ -1,7 +1,7 @@
-use Rattle.std.proofs.Common.{◌≡◌, ◌<◌, nat_eq, ap, ◌∙◌, eqb→eq, rules}
+use Rattle.std.proofs.Common.{◌<◌, nat_eq, ap, ◌∙◌, eqb→eq, rules}
 use Rattle.std.specs.Int.{reverse_bits, reverse_bits_onto, w8}
 use Rattle.std.specs.Prelude.{bit_and}
-use Rattle.sycon.proofs.Tests.{every, at}
+use Rattle.sycon.proofs.Tests.{at}
 use Rattle.sponge.specs.Blocks.{domain_byte_of}
 use Rattle.sponge.proofs.block.Domain.byte.Goals as goal
 

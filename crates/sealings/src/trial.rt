@@ -1,4 +1,5 @@
-//! Sealing, opening and digest, each held to what is expected.
+//! Sealing, opening and digest, each held to what is expected. The heap and the engine are handed down as they are: a struct of
+//! them would be made for each call.
 
 use crate::place;
 use crate::place::{CLEARED, Left, MARK, USED};

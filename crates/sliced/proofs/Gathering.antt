@@ -1,6 +1,7 @@
 -- Terms of rotations and masks that bring each column from its place.
-use Rattle.std.proofs.Common.{◌≡◌, ℕ, zero, suc, ◌+◌, ◌%◌, ◌^◌, ◌<◌, Bool, true, false, ◌&&◌, T, eqb, ltb, List, [], ◌∷◌, get_or}
+use Rattle.std.proofs.Common.{◌≡◌, ℕ, zero, suc, ◌+◌, ◌%◌, ◌^◌, ◌<◌, Bool, true, false, ◌&&◌, T, eqb, ltb, List, [], ◌∷◌, get_or, map}
 use Rattle.std.proofs.Common.{fold, refl, ap, ap₂, ◌∙◌, mod-eq_of_lt, arith, eqb→eq, ltb→lt}
+use denote.Bor.{Bor}
 use lib.Bits.{bit_and, bit_xor, and_zero_r, xor_zero_r, and_mask}
 use Rattle.sycon.specs.Permutation.{bit}
 use Rattle.std.specs.Int.{w64, rotate_right}
@@ -80,15 +81,21 @@ module _ (x c : ℕ) (fits : x < 2 ^ 64) (h : c < 64) where
   unfolding gathered
   bit-gathered ts = bit-fold ts 0 0 (bit-zero c)
 
+-- the terms that an entry of a table lends
+pub lent_at : (table : List (Bor (List (ℕ × ℕ)))) (j : ℕ) (d : Bor (List (ℕ × ℕ)))
+    → (get_or table j d).now ≡ get_or (map (λ lent. lent.now) table) j d.now
+lent_at [] j d = refl
+lent_at (lent ∷ table) zero d = refl
+lent_at (lent ∷ table) (suc j) d = lent_at table j d
+
 -- terms for each word that bring column `from j c` to column `to j c`, by one test of all columns
 module _ (table : List (List (ℕ × ℕ))) (to from : ℕ → ℕ → ℕ) where
   abbrev led : ℕ → ℕ → Bool
   led j c = ltb (to j c) 64 && leads (get_or table j []) (to j c) (from j c)
 
-  pub gathered_along : (ws vs : List ℕ)
-      → ((j : ℕ) → j < 5 → (c : ℕ) → c < 64 → bit (get_or vs j 0) c ≡ gathered (get_or table j []) (bit (get_or ws j 0)) c)
-      → T (every 5 (λ j. every 64 (led j))) → (j c : ℕ) → j < 5 → c < 64 → bit (get_or vs j 0) (to j c) ≡ bit (get_or ws j 0) (from j c)
-  gathered_along ws vs e t j c hj hc =
+  pub gathered_along : T (every 5 (λ j. every 64 (led j)))
+      → (x y j : ℕ) → j < 5 → ((c : ℕ) → c < 64 → bit y c ≡ gathered (get_or table j []) (bit x) c)
+      → (c : ℕ) → c < 64 → bit y (to j c) ≡ bit x (from j c)
+  gathered_along t x y j hj e c hc =
       let (low, here) = both (ltb (to j c) 64) (leads (get_or table j []) (to j c) (from j c)) (at_cells led t j c hj hc) in
-      e j hj (to j c) (ltb→lt (to j c) 64 low)
-      ∙ gathered_from (bit (get_or ws j 0)) (to j c) (bit-digit (get_or ws j 0)) (get_or table j []) (from j c) here
+      e (to j c) (ltb→lt (to j c) 64 low) ∙ gathered_from (bit x) (to j c) (bit-digit x) (get_or table j []) (from j c) here

@@ -2,9 +2,9 @@
 
 ghost use Rattle.std.specs.Prelude.{◌≡◌, ℕ, ◌<◌};
 ghost use Rattle.sliced.specs.Rows.{gathered};
-ghost use Rattle.sycon.specs.Permutation.{arranged, bit, substituted};
+ghost use Rattle.sycon.specs.Permutation.{arranged, bit, origin, substituted};
 ghost use Rattle.sycon.specs.Steps.{on_state};
-ghost use Rattle.words.specs.Words.{meant};
+ghost use Rattle.words.specs.Words.{meant, word_bits};
 
 use std::array;
 use words::Words;
@@ -52,9 +52,8 @@ fn inverse_sbox(words: &Words) -> Words
 type Term = (u32, u64);
 
 // For each word the terms (k, mask) of step 4: column c, where the mask has it, comes from column c + k.
-// All have seven, in one array of fixed size; the term (0, 0) adds nothing.
-const ARRANGEMENT: [[Term; 7]; 5] = [
-    [
+const ARRANGEMENT: [&[Term]; 5] = [
+    &[
         (3, 0x0000_E000_00FF_1F00),
         (11, 0xFF00_001F_FF00_0000),
         (19, 0x0000_1F00_0000_0000),
@@ -63,16 +62,15 @@ const ARRANGEMENT: [[Term; 7]; 5] = [
         (51, 0x0000_0000_0000_E0FF),
         (59, 0x0000_00E0_0000_0000),
     ],
-    [
+    &[
         (4, 0x0000_0000_0000_00FF),
         (20, 0x0000_0000_F000_0000),
         (36, 0xF0FF_0000_0F00_0000),
         (44, 0x0000_00F0_00F0_FF00),
         (52, 0x0F00_0000_0000_0000),
         (60, 0x0000_FF0F_000F_0000),
-        (0, 0),
     ],
-    [
+    &[
         (2, 0x0000_0000_0000_C000),
         (10, 0x003F_0000_FFC0_0000),
         (18, 0x0000_C000_0000_3F00),
@@ -81,16 +79,15 @@ const ARRANGEMENT: [[Term; 7]; 5] = [
         (50, 0x0000_0000_0000_00FF),
         (58, 0x00C0_0000_0000_0000),
     ],
-    [
+    &[
         (7, 0xFEFF_FE00_0100_0000),
         (15, 0x0000_0000_00FE_0000),
         (23, 0x0100_0100_0000_00FF),
         (31, 0x0000_0000_0001_FF00),
         (39, 0x0000_00FF_0000_0000),
         (55, 0x0000_0000_FE00_0000),
-        (0, 0),
     ],
-    [
+    &[
         (5, 0x0000_F800_0000_0000),
         (13, 0x0000_0007_0000_00F8),
         (21, 0x0000_0700_0000_0000),
@@ -102,8 +99,8 @@ const ARRANGEMENT: [[Term; 7]; 5] = [
 ];
 
 // The terms that take step 4 back.
-const UNARRANGEMENT: [[Term; 7]; 5] = [
-    [
+const UNARRANGEMENT: [&[Term]; 5] = [
+    &[
         (5, 0x0000_0007_0000_0000),
         (13, 0x07F8_0000_0000_0007),
         (21, 0x0000_0000_F800_0000),
@@ -112,16 +109,15 @@ const UNARRANGEMENT: [[Term; 7]; 5] = [
         (53, 0x0000_FFF8_0000_07F8),
         (61, 0x0007_0000_07F8_F800),
     ],
-    [
+    &[
         (4, 0x0000_0FF0_F000_F000),
         (12, 0x0000_F000_0000_0000),
         (20, 0x0FF0_0000_000F_000F),
         (28, 0xF000_000F_0FF0_0000),
         (44, 0x000F_0000_0000_0000),
         (60, 0x0000_0000_0000_0FF0),
-        (0, 0),
     ],
-    [
+    &[
         (6, 0x0003_0000_0000_0000),
         (14, 0x03FC_0000_0000_0000),
         (30, 0x0000_0000_0000_FFFC),
@@ -130,16 +126,15 @@ const UNARRANGEMENT: [[Term; 7]; 5] = [
         (54, 0xFC00_03FF_0000_0000),
         (62, 0x0000_0000_0003_0000),
     ],
-    [
+    &[
         (9, 0x0000_0000_007F_0000),
         (25, 0x0000_0000_0000_7F80),
         (33, 0x0000_FF80_0000_0000),
         (41, 0x8000_0000_7F80_8000),
         (49, 0x0000_007F_0000_0000),
         (57, 0x7FFF_0000_8000_007F),
-        (0, 0),
     ],
-    [
+    &[
         (3, 0x0000_001F_0000_E000),
         (19, 0x1FE0_1FE0_0000_1FFF),
         (27, 0x0000_0000_1FE0_0000),
@@ -151,7 +146,7 @@ const UNARRANGEMENT: [[Term; 7]; 5] = [
 ];
 
 // Rotations of the word, each cut down to its mask, in one word.
-fn gather(x: u64, terms: &[Term; 7]) -> u64
+fn gather(x: u64, terms: &[Term]) -> u64
     ensures { (c : ℕ) → c < 64 → bit result c ≡ gathered terms.now (bit x) c }
 {
     terms
@@ -159,21 +154,39 @@ fn gather(x: u64, terms: &[Term; 7]) -> u64
         .fold(0, |row, (k, mask)| row ^ (x.rotate_right(*k) & *mask))
 }
 
-// Step 4. The table is named here and in `unarrange`, and is no argument of one function for both: a table that comes as
-// an argument is read at run time, and the rounds then take twice as long.
+// Word j after step 4. The table is named here and in `unarranged_row`, and is no argument of one function for both: a table
+// that comes as an argument is read at run time, and the rounds then take twice as long.
+fn arranged_row(rows: &[u64; 5], j: usize) -> u64
+    requires { j < 5 }
+    ensures { (c : ℕ) → c < 64 → bit result c ≡ arranged (word_bits rows.now) j c }
+{
+    gather(rows[j], ARRANGEMENT[j])
+}
+
+// Step 4.
 fn arrange(words: &Words) -> Words
     ensures { meant result ≡ on_state arranged (meant words.now) }
 {
+    let Words { rows } = words;
     Words {
-        rows: array::from_fn(|j| gather(words.rows[j], &ARRANGEMENT[j])),
+        rows: array::from_fn(|j| arranged_row(rows, j)),
     }
+}
+
+// The row that step 4 takes to word j.
+fn unarranged_row(rows: &[u64; 5], j: usize) -> u64
+    requires { j < 5 }
+    ensures { (c : ℕ) → c < 64 → bit result (origin j c) ≡ word_bits rows.now j c }
+{
+    gather(rows[j], UNARRANGEMENT[j])
 }
 
 // Step 4, taken back.
 fn unarrange(words: &Words) -> Words
     ensures { on_state arranged (meant result) ≡ meant words.now }
 {
+    let Words { rows } = words;
     Words {
-        rows: array::from_fn(|j| gather(words.rows[j], &UNARRANGEMENT[j])),
+        rows: array::from_fn(|j| unarranged_row(rows, j)),
     }
 }

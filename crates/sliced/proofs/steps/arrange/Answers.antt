@@ -1,19 +1,14 @@
-use Rattle.std.proofs.Common.{◌≡◌, ℕ, ◌<◌, [], get_or, rules}
-use Rattle.sycon.specs.Permutation.{bit, origin, turned, arranged}
+use Rattle.std.proofs.Common.{◌≡◌, ℕ, ◌<◌, rules}
+use Rattle.sycon.specs.Permutation.{bit, arranged}
 use Rattle.sycon.proofs.Made.{made}
 use Rattle.sycon.proofs.Steps.{respects-arranged}
-use Rattle.sliced.specs.declared.steps.TheConstants.{ARRANGEMENT}
-use Rattle.sliced.specs.Rows.{gathered}
-use Rattle.sliced.proofs.Gathering.{gathered_along}
+use Rattle.words.specs.Words.{word_bits}
 use Rattle.words.proofs.Held.{held_step}
 use Rattle.sliced.proofs.steps.arrange.Goals as goal
 
 pub returns : goal.returns
-unfolding bit origin turned arranged
 returns c =
     let ws = c.args.words.now.rows in
     held_step arranged respects-arranged ws c.from_fn.result
-    (gathered_along ARRANGEMENT (λ j c. c) origin ws c.from_fn.result
-    (made _ _ 0 (λ j y. (k : ℕ) → k < 64 → bit y k ≡ gathered (get_or ARRANGEMENT j []) (bit (get_or ws j 0)) k) (λ j y f e. search rules)
-    c.from_fn.result 5 c.from_fn.ensures.items)
-    tt)
+    (λ j k hj hk. made _ _ 0 (λ j y. (k : ℕ) → k < 64 → bit y k ≡ arranged (word_bits ws) j k) (λ j y f e. search rules)
+    c.from_fn.result 5 c.from_fn.ensures.items j hj k hk)

@@ -16,7 +16,9 @@ mod tables;
 
 type ColumnBytes = [u8; 64];
 
-// Bit k of a number: digit k of a column, or column k of a word.
+// Bit k of a number: digit k of a column, or column k of a word. Digits are numbers below 2 and no bool, since the definition
+// counts with them. The bounds of a column and of a word are conditions of each function below, since such numbers are
+// counted on the spot and nothing keeps them.
 fn digit(x: u64, k: usize) -> u8
     requires { k < 64 }
     ensures value { result ≡ bit x k }
@@ -172,7 +174,8 @@ fn arrange(columns: &ColumnBytes) -> ColumnBytes
 }
 
 // Step 4, taken back: bit n, counted through the columns, is put where it came from. That is another column for each word,
-// so the new columns come in no order that an iterator has.
+// so the new columns come in no order that an iterator has. One loop over the bits has one invariant; two nested loops, over
+// columns and digits, would have two.
 fn unarrange(columns: &ColumnBytes) -> ColumnBytes
     ensures { on_state arranged (held result) ≡ held columns.now }
 {
@@ -218,7 +221,8 @@ fn byte_at(columns: &ColumnBytes, k: usize) -> u8
     )
 }
 
-// By number: `iter_mut` over the eight columns reads no plainer, and its proof needs lemmas on a part that is written back.
+// By number: `iter_mut` over the eight columns was tried, and its proof did not close, since its goals speak of a part that is
+// written back.
 fn put_byte(columns: &mut ColumnBytes, k: usize, b: u8)
     requires { k < 40 }
     ensures { held columns.new ≡ slice_set (held columns.old) k b }

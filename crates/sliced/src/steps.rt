@@ -155,7 +155,9 @@ fn gather(x: u64, terms: &[Term]) -> u64
 }
 
 // Word j after step 4. The table is named here and in `unarranged_row`, and is no argument of one function for both: a table
-// that comes as an argument is read at run time, and the rounds then take twice as long.
+// that comes as an argument is read at run time, and the rounds then take twice as long. A trait with the table as its
+// constant would be longer: a constant in contracts is given twice, in the code and as the trait's ghost member, so both
+// tables would stand twice.
 fn arranged_row(rows: &[u64; 5], j: usize) -> u64
     requires { j < 5 }
     ensures { (c : ℕ) → c < 64 → bit result c ≡ arranged (word_bits rows.now) j c }

@@ -1,17 +1,13 @@
 //! One sealed text, damaged in every byte by every difference.
 
 use crate::place;
-use crate::place::{Left, MARK, TAIL, USED};
+use crate::place::{LABEL, Left, MARK, TAIL, TEXT, USED};
 use refusal::Refusal;
 use sealing::{Rate, Under, open, seal};
 use std::fmt;
 use sycon::engine::Engine;
 
-const LEN: usize = 13;
-
-const TEXT: [u8; LEN] = *b"#BE MILES W4\n";
-
-const LABEL: [u8; 12] = *b"BV1,207,1,25";
+const LEN: usize = TEXT.len();
 
 const KEY: [u8; 16] = *b"ATLAS BINDERY 07";
 

@@ -2,8 +2,8 @@
 
 use crate::trial::{Case, Expected};
 use sealing::Under;
-use std::alloc::Global;
-use std::str::Split;
+use std::alloc::{AllocError, Global};
+use std::str::{FromStr, Split};
 
 #[derive(Clone, Copy)]
 pub enum Bits {
@@ -84,8 +84,22 @@ impl UnderWords {
     }
 }
 
-/// None where it is no such line, or no memory is left for its bytes.
-pub fn parse(heap: Global, line: &str) -> Option<Line> {
+/// Why no line was read.
+#[derive(Clone, Copy, Debug)]
+pub enum Unread {
+    /// It is none.
+    NoLine,
+    /// No memory is left for its bytes.
+    NoMemory(AllocError),
+}
+
+impl From<AllocError> for Unread {
+    fn from(lack: AllocError) -> Unread {
+        Unread::NoMemory(lack)
+    }
+}
+
+pub fn parse(heap: Global, line: &str) -> Result<Line, Unread> {
     let mut words = Words {
         heap,
         rest: line.split(' '),
@@ -93,17 +107,22 @@ pub fn parse(heap: Global, line: &str) -> Option<Line> {
     let line = match words.word()? {
         "digest" => Line::Digest(words.digest_line()?),
         "long" => Line::Long(words.bits()?, words.long_line()?),
-        kind => Line::Sealing(Bits::parse(kind)?, words.sealing_line()?),
+        kind => Line::Sealing(kind.parse()?, words.sealing_line()?),
     };
-    words.word().is_none().then_some(line)
+    match words.rest.next() {
+        None => Ok(line),
+        Some(_) => Err(Unread::NoLine),
+    }
 }
 
-impl Bits {
-    fn parse(word: &str) -> Option<Bits> {
+impl FromStr for Bits {
+    type Err = Unread;
+
+    fn from_str(word: &str) -> Result<Bits, Unread> {
         match word {
-            "64" => Some(Bits::Narrow),
-            "96" => Some(Bits::Wide),
-            _ => None,
+            "64" => Ok(Bits::Narrow),
+            "96" => Ok(Bits::Wide),
+            _ => Err(Unread::NoLine),
         }
     }
 }
@@ -116,33 +135,37 @@ struct Words<'a> {
 }
 
 impl<'a> Words<'a> {
-    fn word(&mut self) -> Option<&'a str> {
-        self.rest.next()
+    fn word(&mut self) -> Result<&'a str, Unread> {
+        self.rest.next().ok_or(Unread::NoLine)
     }
 
-    fn bits(&mut self) -> Option<Bits> {
-        Bits::parse(self.word()?)
+    fn bits(&mut self) -> Result<Bits, Unread> {
+        self.word()?.parse()
     }
 
-    // The model writes no capital letters, and a line that has some is none.
-    fn bytes(&mut self) -> Option<Vec<u8>> {
-        match self.word()? {
-            "-" => Some(Vec::new(self.heap)),
-            word if word.bytes().any(|c| c.is_ascii_uppercase()) => None,
-            word => hex::decode(self.heap, word).ok(),
-        }
+    // The model writes no capital letters, and a line that has some is none. The program states tests its cases for them too,
+    // but the two share no crate.
+    fn bytes(&mut self) -> Result<Vec<u8>, Unread> {
+        let digits = match self.word()? {
+            "-" => "",
+            word if word.bytes().any(|c| c.is_ascii_uppercase()) => return Err(Unread::NoLine),
+            word => word,
+        };
+        let mut bytes = vec![in self.heap; 0; digits.len() / 2]?;
+        hex::decode_to_slice(digits, bytes.as_mut_slice()).map_err(|_| Unread::NoLine)?;
+        Ok(bytes)
     }
 
-    fn under(&mut self) -> Option<UnderWords> {
-        Some(UnderWords {
+    fn under(&mut self) -> Result<UnderWords, Unread> {
+        Ok(UnderWords {
             key: self.bytes()?,
             nonce: self.bytes()?,
             label: self.bytes()?,
         })
     }
 
-    fn sealing_line(&mut self) -> Option<SealingLine> {
-        Some(SealingLine {
+    fn sealing_line(&mut self) -> Result<SealingLine, Unread> {
+        Ok(SealingLine {
             under: self.under()?,
             text: self.bytes()?,
             sealed: self.bytes()?,
@@ -150,16 +173,16 @@ impl<'a> Words<'a> {
         })
     }
 
-    fn long_line(&mut self) -> Option<LongLine> {
-        Some(LongLine {
+    fn long_line(&mut self) -> Result<LongLine, Unread> {
+        Ok(LongLine {
             under: self.under()?,
             digest: self.bytes()?,
             tag: self.bytes()?,
         })
     }
 
-    fn digest_line(&mut self) -> Option<DigestLine> {
-        Some(DigestLine {
+    fn digest_line(&mut self) -> Result<DigestLine, Unread> {
+        Ok(DigestLine {
             text: self.bytes()?,
             digest: self.bytes()?,
         })

@@ -1,7 +1,7 @@
 //! Wrong lengths, at which a call refuses and leaves everything as it was.
 
 use crate::place;
-use crate::place::{CLEARED, GIVEN, MARK, USED};
+use crate::place::{CLEARED, GIVEN, LABEL, MARK, TEXT, USED};
 use crate::tally::Tally;
 use refusal::Refusal;
 use sealing::{Rate, Under, digest, open, seal};
@@ -9,11 +9,6 @@ use std::alloc::{AllocError, Global};
 use std::fmt;
 use sycon::engine;
 use sycon::engine::Engine;
-
-const LABEL: [u8; 12] = *b"BV1,207,1,25";
-
-// A text, or sealed bytes.
-const BYTES: [u8; 13] = *b"#BE MILES W4\n";
 
 // How long a key, a nonce or a seal must not be.
 const WRONG: [usize; 3] = [0, 15, 17];
@@ -34,10 +29,10 @@ const RIGHT: Lengths = Lengths {
     key: 16,
     nonce: 16,
     tag: 16,
-    place: BYTES.len(),
+    place: TEXT.len(),
 };
 
-const TOO_SHORT: usize = BYTES.len() - 1;
+const TOO_SHORT: usize = TEXT.len() - 1;
 
 /// How often calls refused for a wrong length, and left their places and the engine as they were.
 #[derive(Clone, Copy, Default)]
@@ -138,10 +133,10 @@ fn refuse_both<R: Rate, E: Engine>(
     score: &mut Measures,
 ) -> Result<(), AllocError> {
     let seal = |engine: &mut E, under: Under<'_>, sealed: &mut [u8], tag: &mut [u8]| {
-        seal::<R, E>(engine, under, &BYTES, sealed, tag)
+        seal::<R, E>(engine, under, &TEXT, sealed, tag)
     };
     let open = |engine: &mut E, under: Under<'_>, text: &mut [u8], tag: &mut [u8]| {
-        open::<R, E>(engine, under, &BYTES, tag, text)
+        open::<R, E>(engine, under, &TEXT, tag, text)
     };
     refuse(heap, engine, lengths, MARK, seal, &mut score.seal)?;
     refuse(heap, engine, lengths, GIVEN, open, &mut score.open)
@@ -185,7 +180,7 @@ pub fn measure_digest<E: Engine>(
     for wrong in WRONG_DIGEST {
         let mut place = place::marked(heap, wrong)?;
         engine.load(&USED);
-        let answer = digest(engine, &BYTES, place.as_mut_slice());
+        let answer = digest(engine, &TEXT, place.as_mut_slice());
         score
             .digest
             .note(answer, place::is_marked(place.as_slice()), engine);

@@ -6,6 +6,11 @@ use std::fmt;
 use sycon::engine;
 use sycon::engine::{Engine, StateBytes};
 
+/// What is sealed, and, where the bytes do not matter, what is opened.
+pub const TEXT: [u8; 13] = *b"#BE MILES W4\n";
+
+pub const LABEL: [u8; 12] = *b"BV1,207,1,25";
+
 /// What every byte of a place holds before a call.
 pub const MARK: u8 = 0xA5;
 

@@ -1,6 +1,6 @@
 //! The lines of the input, each tried with both engines.
 
-use crate::line::{Bits, DigestLine, Line};
+use crate::line::{Bits, DigestLine, Line, Unread};
 use crate::trial::{Case, Digested, Score};
 use crate::{line, trial};
 use columns::Columns;
@@ -62,14 +62,15 @@ fn long_text(heap: Global) -> Result<Vec<u8>, AllocError> {
 impl Scores {
     fn note(&mut self, heap: Global, line: &str, long_text: &[u8]) -> Result<(), AllocError> {
         match line::parse(heap, line) {
-            Some(Line::Sealing(bits, parts)) => {
+            Ok(Line::Sealing(bits, parts)) => {
                 note_case(heap, &mut self.cases, bits, parts.case())?;
             }
-            Some(Line::Long(bits, parts)) => {
+            Ok(Line::Long(bits, parts)) => {
                 note_case(heap, &mut self.long, bits, parts.case(long_text))?;
             }
-            Some(Line::Digest(parts)) => note_digest(&mut self.digests, &parts),
-            None => self.unread = self.unread.saturating_add(1),
+            Ok(Line::Digest(parts)) => note_digest(&mut self.digests, &parts),
+            Err(Unread::NoLine) => self.unread = self.unread.saturating_add(1),
+            Err(Unread::NoMemory(lack)) => return Err(lack),
         }
         Ok(())
     }

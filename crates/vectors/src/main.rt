@@ -24,6 +24,11 @@ const AT_96_BITS: Published = Published {
     seal: "06F990758FE75620A11210C7095EBECD",
 };
 
+// The slips are at 96 bits.
+const BLOCK: usize = Rate96::BLOCK;
+
+const ROUNDS: usize = Rate96::ROUNDS;
+
 const DIGEST: &str = "95088252C915EF0B5013BEA358ACEB366096D2E179603ED49D1BF60A9BF52956";
 
 // What was published of the sealed text.
@@ -84,16 +89,16 @@ fn seal_with_slips(engine: &mut Sliced) -> Sealed {
     let mut bytes = [0; TEXT.len()];
     engine.load(&loaded());
     engine.turn(14);
-    absorb(engine, &KEY[..12], Domain(0), 14);
+    absorb(engine, &KEY[..BLOCK], Domain(0), 14);
     absorb(engine, &padded(&[a, b, c, d]), Domain(1), 14);
-    absorb(engine, &LABEL[..12], Domain(1), 9);
-    absorb(engine, &padded(&LABEL[8..12]), Domain(2), 9);
-    for (text, sealed) in TEXT.chunks(12).zip(bytes.chunks_mut(12)) {
-        let domain = Domain(if text.len() == 12 { 2 } else { 4 });
+    absorb(engine, &LABEL[..BLOCK], Domain(1), ROUNDS);
+    absorb(engine, &padded(&LABEL[8..12]), Domain(2), ROUNDS);
+    for (text, sealed) in TEXT.chunks(BLOCK).zip(bytes.chunks_mut(BLOCK)) {
+        let domain = Domain(if text.len() == BLOCK { 2 } else { 4 });
         seal_block(engine, text, sealed);
-        absorb(engine, &padded(text), domain, 9);
+        absorb(engine, &padded(text), domain, ROUNDS);
     }
-    absorb(engine, &KEY[..12], Domain(4), 14);
+    absorb(engine, &KEY[..BLOCK], Domain(4), 14);
     absorb(engine, &[a ^ 1, b, c, d], Domain(4), 14);
     Sealed {
         bytes,
@@ -126,12 +131,12 @@ fn loaded() -> StateBytes {
     let mut bytes = [0; 40];
     bytes[..16].copy_from_slice(&KEY);
     bytes[16..32].copy_from_slice(&KEY);
-    bytes[32..].copy_from_slice(&0x5980A92AFC5D9D2Cu64.to_le_bytes());
+    bytes[32..].copy_from_slice(&Rate96::INITIAL_VECTOR.to_le_bytes());
     bytes
 }
 
-// At most 12 bytes, with the padding behind them where they leave room.
-fn padded(bytes: &[u8]) -> [u8; 12] {
+// At most a block of bytes, with the padding behind them where they leave room.
+fn padded(bytes: &[u8]) -> [u8; BLOCK] {
     array::from_fn(|k| match bytes.get(k) {
         Some(b) => *b,
         None => u8::from(k == bytes.len()),

@@ -71,7 +71,7 @@ fn load(bytes: &StateBytes, j: usize) -> u64
     u64::from_le_bytes(words[j])
 }
 
-// Byte i of a word, from the lowest. By a shift: `x.to_le_bytes()[i]` proves as well, but sealing then takes 0.97 to 0.99 of
+// Byte i of a word, from the lowest. By a shift: `x.to_le_bytes()[i]` proves as well, but sealing then takes 0.96 to 0.99 of
 // the time of scalar C, and 0.91 with the shift.
 fn byte(x: u64, i: usize) -> u8
     requires { i < 8 }
@@ -80,7 +80,7 @@ fn byte(x: u64, i: usize) -> u8
     ((x >> (8 * i)) % 256) as u8
 }
 
-// The word with byte i replaced.
+// The word with byte i replaced. By masks: through `to_le_bytes` and back was tried too, and its proof did not close.
 fn with_byte(x: u64, i: usize, b: u8) -> u64
     requires { i < 8 }
     ensures here { (k : ℕ) → k < 8 → bit result (8 * i + k) ≡ bit b k }

@@ -46,7 +46,7 @@ pub extern "C" fn columns_turn_back(engine: &mut Columns, r: usize)
     <Columns as TwoWay>::turn_back(engine, r);
 }
 
-/// Seals at 64 bits. Gives 0, or the number of the refusal.
+/// Seals at 64 bits. Gives 0, or the number of the refusal. C passes each slice as an address and a length, and so no `Under`.
 #[unsafe(no_mangle)]
 pub extern "C" fn sliced_seal(
     engine: &mut Sliced,

@@ -117,7 +117,7 @@ fn sbox_table() -> &'static [u8; 32]
     &SBOX
 }
 
-// Step 1. This and its inverse differ in the table alone, and each has a promise of its own.
+// Step 1. What this shares with its inverse is `look_up`; a function for both would take the table and lose the promise.
 fn substitute(columns: &ColumnBytes) -> ColumnBytes
     ensures { held result ≡ on_state substituted (held columns.now) }
 {

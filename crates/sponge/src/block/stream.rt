@@ -46,8 +46,8 @@ pub fn absorb_message<R: Rate, E: Engine>(
     absorb_padded::<R, E>(engine, bytes, domain, last);
 }
 
-// Apart, so that a slip in `absorb_message` is refused in the code. A running domain and a last one travel together in these two
-// alone, and a pair of them would only be taken apart again.
+// Apart, so that a slip in `absorb_message` is refused in the code. A running domain and a last one travel together in these two,
+// and a pair of them would only be taken apart again.
 fn absorb_padded<R: Rate, E: Engine>(engine: &mut E, bytes: &[u8], domain: Domain, last: Domain)
     ensures { E.state engine.new
         ≡ absorbed_all R.setting.rounds (marked domain.0 last.0 (blocks R.setting.block bytes.now))

@@ -3,7 +3,7 @@
 #![tactic(auto)]
 
 ghost use Rattle.refusal.specs.Numbers.{number as number_of, word as word_of};
-ghost use Rattle.std.specs.Prelude.{◌≡◌};
+ghost use Rattle.std.specs.Prelude.{◌≡◌, Some};
 
 use std::error::Error;
 use std::fmt;
@@ -36,6 +36,8 @@ impl Refusal {
 
 /// Prints the word.
 impl fmt::Display for Refusal {
+    ghost output = { λ refusal. Some (word_of refusal) };
+
     fn fmt<W: fmt::Write>(&self, f: &mut fmt::Formatter<W>) -> fmt::Result {
         f.write_str(self.word())
     }

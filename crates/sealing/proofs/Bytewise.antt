@@ -82,6 +82,11 @@ module _ (t : Setting) where
   message_same d e xs s pos =
       sym (message_blocks t d e pos xs s) ∙ ap₂ (λ p u. ended t e p u) (place_same 0 xs pos) (state_same d 0 xs s pos)
 
+  -- sealed bytes, in any state, in blocks of any length that a state has
+  pub sealed_blocks_bytewise : 0 < t.block → t.block ≤ 40 → (text s : List ℕ) → length s ≡ 40
+      → sealed_from t 0 text s ≡ sealed_in t text s
+  sealed_blocks_bytewise pos small text s h = sym (sealed_same 0 text s pos) ∙ sealed_blocks t pos small text s h
+
 -- zeros behind a block change nothing
 absorbed_zeros : (r d n : ℕ) (xs s : List ℕ) → absorbed r (xs ++ replicate n 0) d s ≡ absorbed r xs d s
 absorbed_zeros r d n xs s =
@@ -131,10 +136,6 @@ module _ (t : Setting) (low : 8 ≤ t.block) (high : t.block ≤ 12) where
   labelled_same [] s = refl
   labelled_same (x ∷ xs) s = message_same t 1 2 (x ∷ xs) s pos
 
-  -- sealed bytes, in any state
-  pub sealed_blocks_bytewise : (text s : List ℕ) → length s ≡ 40 → sealed_from t 0 text s ≡ sealed_in t text s
-  sealed_blocks_bytewise text s h = sym (sealed_same t 0 text s pos) ∙ sealed_blocks t pos small text s h
-
   module _ (key nonce label : List ℕ) (l : length key ≡ 16) where
     abbrev s : List ℕ
     s = ready_by_blocks t key nonce label
@@ -151,7 +152,7 @@ module _ (t : Setting) (low : 8 ≤ t.block) (high : t.block ≤ 12) where
     whole = length-ready t key nonce label
 
     sealed_bytes_same : (text : List ℕ) → sealed_by_blocks t key nonce label text ≡ sealed_bytes t key nonce label text
-    sealed_bytes_same text = sym (sealed_blocks_bytewise text s whole) ∙ ap (sealed_from t 0 text) ready_same
+    sealed_bytes_same text = sym (sealed_blocks_bytewise t pos small text s whole) ∙ ap (sealed_from t 0 text) ready_same
 
     opened_bytes_same : (ys : List ℕ) → opened_by_blocks t key nonce label ys ≡ opened_bytes t key nonce label ys
     opened_bytes_same ys = sym (opened_stream t pos small ys s whole) ∙ opened_same t 0 ys s pos ∙ ap (opened_from t 0 ys) ready_same

@@ -144,12 +144,12 @@ impl<'a> Words<'a> {
     }
 
     // The model writes no capital letters, and a line that has some is none. The program states tests its cases for them too,
-    // but the two share no crate.
+    // but the two share no crate. Memory is asked for only where all are digits.
     fn bytes(&mut self) -> Result<Vec<u8>, Unread> {
         let digits = match self.word()? {
             "-" => "",
-            word if word.bytes().any(|c| c.is_ascii_uppercase()) => return Err(Unread::NoLine),
-            word => word,
+            word if word.bytes().all(is_digit) => word,
+            _ => return Err(Unread::NoLine),
         };
         let mut bytes = vec![in self.heap; 0; digits.len() / 2]?;
         hex::decode_to_slice(digits, bytes.as_mut_slice()).map_err(|_| Unread::NoLine)?;
@@ -187,4 +187,8 @@ impl<'a> Words<'a> {
             digest: self.bytes()?,
         })
     }
+}
+
+fn is_digit(code: u8) -> bool {
+    matches!(code, b'0'..=b'9' | b'a'..=b'f')
 }

@@ -69,8 +69,10 @@ impl Scores {
                 note_case(heap, &mut self.long, bits, parts.case(long_text))?;
             }
             Ok(Line::Digest(parts)) => note_digest(&mut self.digests, &parts),
-            Err(Unread::NoLine) => self.unread = self.unread.saturating_add(1),
-            Err(Unread::NoMemory(lack)) => return Err(lack),
+            // The lines behind one that no memory was left for are read all the same.
+            Err(Unread::NoLine | Unread::NoMemory(_)) => {
+                self.unread = self.unread.saturating_add(1);
+            }
         }
         Ok(())
     }

@@ -121,10 +121,11 @@ impl FromStr for Case {
 // 40 bytes, each as two hexadecimal digits. The cases have no capital letters, and a line that has some is none. The program
 // sealings tests its lines for them too, but the two share no crate.
 fn state(digits: &str) -> Result<StateBytes, NoCase> {
+    let bytes = StateBytes::from_hex(digits).map_err(|_| NoCase)?;
     if digits.bytes().any(|c| c.is_ascii_uppercase()) {
         return Err(NoCase);
     }
-    StateBytes::from_hex(digits).map_err(|_| NoCase)
+    Ok(bytes)
 }
 
 fn edges<E: TwoWay>(rt: &HostRuntime, name: &str, engine: &mut E) -> io::Result<()> {

@@ -2,7 +2,7 @@
 
 #![tactic(auto)]
 
-use hex::encode_upper;
+use hex::FromHex;
 use published::{KEY, LABEL, Sealed, TEXT};
 use refusal::Refusal;
 use sealing::{Domain, Rate, Rate64, Rate96, Under, absorb, digest, seal};
@@ -164,17 +164,29 @@ fn digest_of(rt: &HostRuntime, engine: &mut Sliced, name: &str, text: &[u8]) -> 
     }
 }
 
-fn compare(
+fn compare<const N: usize>(
     rt: &HostRuntime,
     name: impl fmt::Display + Drop,
-    computed: &[u8],
+    computed: &[u8; N],
     published: &str,
 ) -> io::Result<()> {
-    let computed = encode_upper(rt.alloc(), computed)?;
-    let verdict = if computed.as_str() == published {
-        "agrees"
-    } else {
-        "differs"
-    };
-    println!(rt; "{name}: computed {computed}, published {published}: {verdict}")
+    let agrees = <[u8; N]>::from_hex(published).is_ok_and(|bytes| bytes == *computed);
+    let verdict = if agrees { "agrees" } else { "differs" };
+    println!(rt;
+        "{name}: computed {}, published {published}: {verdict}",
+        Hex(computed)
+    )
+}
+
+// Bytes, each as two digits. Printed as they are, so that no memory is asked for.
+#[derive(Clone, Copy)]
+struct Hex<'a>(&'a [u8]);
+
+impl fmt::Display for Hex<'_> {
+    fn fmt<W: fmt::Write>(&self, f: &mut fmt::Formatter<W>) -> fmt::Result {
+        for b in self.0 {
+            write!(f, "{b:02X}")?;
+        }
+        Ok(())
+    }
 }

@@ -9,6 +9,7 @@ ghost use Rattle.sponge.specs.Modes.{opened_bytes, opened_in, seal_of, text_pair
 ghost use Rattle.sponge.specs.Stream.{opened_from, place_after, state_after};
 ghost use Rattle.std.specs.Str.{bytes_eq};
 
+use super::copy;
 use super::under::{Keyed, Under};
 use refusal::Refusal;
 use sponge::{Domain, Rate, absorb_label, end, feed, finish, start};
@@ -67,7 +68,7 @@ fn open_place<R: Rate, E: Engine>(
 {
     let keyed = under.measure(tag, sealed.len(), text.len())?;
     let front = &mut text[..sealed.len()];
-    front.copy_from_slice(sealed);
+    copy(sealed, front);
     open_guarded::<R, E>(engine, keyed, tag, front)
 }
 
@@ -121,6 +122,7 @@ fn same_bytes(a: &[u8], b: &[u8]) -> bool
 
 // The bytes become the opened ones; gives the seal of these. It is sealing but that the state is given what comes out and not what
 // goes in: so each of these functions has a promise of its own, and a twin in `seal`.
+#[tactic(auto, using(crate::proofs::Messages::messaged_both))]
 fn open_in_place<R: Rate, E: Engine>(engine: &mut E, keyed: Keyed<'_>, bytes: &mut [u8]) -> [u8; 16]
     ensures opened { bytes.new
         ≡ opened_bytes R.setting keyed.entry.key.now keyed.entry.nonce.now keyed.entry.label.now bytes.old }

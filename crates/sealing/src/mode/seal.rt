@@ -7,6 +7,7 @@ ghost use Rattle.sealing.specs.Calls.{sealing};
 ghost use Rattle.sponge.specs.Modes.{seal_of, sealed_bytes, sealed_in, text_pairs};
 ghost use Rattle.sponge.specs.Stream.{message, place_after, sealed_from, state_after};
 
+use super::copy;
 use super::under::{Keyed, Under};
 use refusal::Refusal;
 use sponge::{Domain, Rate, absorb_label, end, feed, finish, start};
@@ -28,12 +29,13 @@ pub fn seal<R: Rate, E: Engine>(
     under.seals_bytewise::<R>();
     let keyed = under.measure(tag, text.len(), sealed.len())?;
     let front = &mut sealed[..text.len()];
-    front.copy_from_slice(text);
+    copy(text, front);
     tag.copy_from_slice(&seal_in_place::<R, E>(engine, keyed, front));
     Ok(())
 }
 
 // The bytes become their sealed ones; gives the seal.
+#[tactic(auto, using(crate::proofs::Messages::messaged_both))]
 fn seal_in_place<R: Rate, E: Engine>(engine: &mut E, keyed: Keyed<'_>, bytes: &mut [u8]) -> [u8; 16]
     ensures sealed { bytes.new
         ≡ sealed_bytes R.setting keyed.entry.key.now keyed.entry.nonce.now keyed.entry.label.now bytes.old }

@@ -118,8 +118,8 @@ impl FromStr for Case {
     }
 }
 
-// 40 bytes, each as two hexadecimal digits. The cases have no capital letters, and a line that has some is none. The program
-// sealings tests its lines for them too, but the two share no crate.
+// 40 bytes, each as two hexadecimal digits. The cases have no capital letters, and a line that has some is none; they are looked
+// for last, in words of the right length alone. The program sealings tests its lines for them too, but the two share no crate.
 fn state(digits: &str) -> Result<StateBytes, NoCase> {
     let bytes = StateBytes::from_hex(digits).map_err(|_| NoCase)?;
     if digits.bytes().any(|c| c.is_ascii_uppercase()) {
